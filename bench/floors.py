@@ -44,7 +44,7 @@ FLOORS = [
      "linearize_check_proof linearize_check_layout linearize_check"),
     ("Optimisers: they propose, and nothing is claimed of them",
      "oracle_graphs oracle_facts oracle_const oracle_alloc_blocks oracle_alloc oracle_cse oracle_webs oracle_alloc_speed oracle_order"),
-    ("Offers, chains of them, and the linked program", "offers offers_choice parallel_validate linker chains bundle_form bundle_reading bundle_offers"),
+    ("Offers, chains of them, and the linked program", "offers offers_choice parallel_validate linker chains chains_made bundle_form bundle_reading bundle_offers"),
     ("Agreement: the protocol, rooms on shared words",
      "paxos_core_world paxos_core_invariant paxos_core_model paxos_core_law paxos_core_late_offers paxos_core_crash paxos_core "
      "rooms_rule rooms_table rooms_steps rooms_state rooms_rights rooms_met rooms_crash rooms_seat rooms_cells rooms_hall rooms rooms_function rooms_numbered"),
@@ -58,7 +58,7 @@ FLOORS = [
      "farm_nodes_seated farm_nodes_opened farm_nodes_rounds farm_nodes_workers farm_nodes_threads farm_nodes_source "
      "farm_nodes_compiling farm_nodes_linked farm_nodes_bundled farm_nodes_crash farm_nodes"),
     ("The program",
-     "cfarm_files cfarm_options cfarm_explaining cfarm_output cfarm_log_lines cfarm_log cfarm_fsck_lines cfarm_fsck_journals cfarm_fsck text_offers program_texts cfarm_runs cfarm_hints cfarm_meter cfarm_report cfarm_build_result cfarm_build_faults cfarm_build_linking cfarm_build_turns cfarm_build cfarm_build_folder cfarm_offered cfarm_build_files cfarm_settle_nodes cfarm_commands cfarm_emitted cfarm_emit cfarm_verify_lowering cfarm_verify_lexing cfarm_verify_pieces cfarm_verify_shares cfarm_verify_checking cfarm_verify_text cfarm_verify_reading cfarm_verify_comparing cfarm_verify cfarm_judge cfarm_schedules_lines "
+     "cfarm_files cfarm_options cfarm_explaining cfarm_output cfarm_log_lines cfarm_log cfarm_fsck_lines cfarm_fsck_journals cfarm_fsck text_offers program_texts cfarm_runs cfarm_hints cfarm_meter cfarm_report cfarm_build_result cfarm_build_faults cfarm_build_linking cfarm_build_turns cfarm_build cfarm_build_folder cfarm_offered cfarm_build_files cfarm_settle_nodes cfarm_commands cfarm_emitted cfarm_emit cfarm_verify_lowering cfarm_verify_reading cfarm_verify_comparing cfarm_verify cfarm_judge cfarm_schedules_lines "
      "cfarm_schedules cfarm_drawing_parts cfarm_drawing cfarm_command_parts cfarm_command_line cfarm_telling cfarm_outcomes cfarm_looking cfarm_folder cfarm_program cfarm"),
     ("Tests",
      "program_rows paxos_reference worked_fakes worked_farm worked_agreement worked_texts worked_forms worked_offers worked_chains "

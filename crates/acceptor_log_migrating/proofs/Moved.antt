@@ -3,7 +3,7 @@ use Rattle.std.proofs.Common.{◌≡◌, ◌≢◌, inl, inr, ⊎_elim, ℕ, Res
 use Rattle.std.specs.Prelude.{All, IsErrOf}
 use Rattle.durable_model.specs.declared.error.DiskError.{DiskError}
 use Rattle.durable_model.specs.declared.error.DiskError.TheVariants as disk
-use Rattle.durable_model.specs.Writes.{overwritten}
+use Rattle.durable_model_writes.specs.Writes.{overwritten}
 use Rattle.durable_model.specs.Honest.{Only}
 use Rattle.durable_model.specs.Moments.{LeavesOnly, started}
 use Rattle.durable_pair.specs.Images.{Both}
@@ -23,7 +23,7 @@ use Rattle.acceptor_log_old_form.proofs.OldHeaders.{either_form, text-first, tex
 use Rattle.acceptor_log_old_form.proofs.OldTexts.{old_listed-stands}
 use Rattle.durable_pair_turning.specs.Turning.{BeginsWith, Turns}
 use Rattle.acceptor_log_translating.specs.declared.translating.Text.{Text}
-use Rattle.acceptor_log_translating.specs.Migrated.{migrated}
+use Rattle.acceptor_log_migrated.specs.Migrated.{migrated}
 use Rattle.acceptor_log_translating.specs.Translating.{IsMigratedText}
 use Rattle.acceptor_log_migrating.specs.Stands.{IsMigrating}
 

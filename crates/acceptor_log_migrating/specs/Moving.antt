@@ -1,6 +1,6 @@
 -- What migration makes of a pair of disks.
 use Rattle.std.specs.Prelude.{◌≡◌, ◌≢◌, ℕ, List, [], ◌∷◌, Result, Ok, Err, length}
-use Rattle.durable_model.specs.Writes.{overwritten}
+use Rattle.durable_model_writes.specs.Writes.{overwritten}
 use Rattle.durable_model.specs.Honest.{Only}
 use Rattle.durable_model.specs.Moments.{LeavesOnly}
 use Rattle.durable_model.specs.declared.disk.Disk as disks
@@ -12,7 +12,7 @@ use Rattle.acceptor_log_form.specs.declared.errors.LogError.TheVariants.{NoMemor
 use Rattle.acceptor_log.specs.declared.log.Log.{Log}
 use Rattle.acceptor_log.specs.Acknowledged.{acknowledged}
 use Rattle.acceptor_log.specs.Rest.{Rests}
-use Rattle.acceptor_log_translating.specs.Migrated.{migrated}
+use Rattle.acceptor_log_migrated.specs.Migrated.{migrated}
 use Rattle.acceptor_log_migrating.specs.declared.migrating.Laid.{Laid}
 use Rattle.acceptor_log_migrating.specs.Stands.{CanMigrate, HasOld, IsMigrating, IsNotMigrated}
 

@@ -6,7 +6,8 @@ ghost use Rattle.acceptor_log.specs.Acknowledged.{IsReady};
 ghost use Rattle.acceptor_log.specs.Faults.{log_fault};
 ghost use Rattle.acceptor_log_migrating.specs.Moving.{returned, IsRefusedFor, IsTurned, HasMigrated, IsLaid, Moves, Stays, IsUnwritten};
 
-use acceptor_log::{Header, Log, LogError};
+use acceptor_log_form::{Header, LogError};
+use acceptor_log::Log;
 use acceptor_log_translating::translate;
 use durable_model::DiskError;
 use durable_pair::Pair;

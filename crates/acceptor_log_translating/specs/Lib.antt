@@ -1,4 +1,3 @@
-pub use Rattle.acceptor_log_migrated.specs.Migrated
 pub mod Translating
 pub mod Found
 pub mod Noted

@@ -16,18 +16,18 @@ use Rattle.rtl_parts.specs.declared.arguments.Arguments.{Arguments}
 use Rattle.rtl_parts.specs.declared.arguments.Arguments.TheVariants.{One, Two}
 use Rattle.rtl_parts.specs.declared.act.Act.{Act}
 use Rattle.rtl_parts.specs.declared.act.Act.TheVariants.{Nop, Constant, Move, Operate, Load, Store, Put}
-use Rattle.alloc_check_live.specs.Instruction.{Instruction}
-use Rattle.alloc_check_live.specs.Instruction.TheVariants.{Do, Call, Branch, Return}
-use Rattle.alloc_check_live.specs.RtlLanguageFunction.{FunctionData, IsFunction}
+use Rattle.rtl_language.specs.declared.instruction.Instruction.{Instruction}
+use Rattle.rtl_language.specs.declared.instruction.Instruction.TheVariants.{Do, Call, Branch, Return}
+use Rattle.rtl_language.specs.Function.{FunctionData, IsFunction}
 use Rattle.ltl.specs.declared.block.Block.{Block}
-use Rattle.alloc_check_live.specs.Equation.{Equation}
-use Rattle.alloc_check_live.specs.Change.{Change}
-use Rattle.alloc_check_live.specs.Change.TheVariants.{Nothing, Defines, Copies}
-use Rattle.alloc_check_live.specs.Demand.{Demand}
-use Rattle.alloc_check_live.specs.Demand.TheVariants.{Met, Refused, Needs}
-use Rattle.alloc_check_live.specs.Equations.{over_call, demand}
-use Rattle.alloc_check_live.specs.Pairs.{equations_of, arguments_used, act_uses, uses, change_of, act_change, result_change, same_number, successors_of}
-use Rattle.alloc_check_live.specs.Rules.{baseline_limit, equations_at, IsInOrder, IsGiven, IsAnswered, IsCarried, StandsFor, HoldsAtEntry, IsRightAs, IsAllocated}
+use Rattle.alloc_check_rules.specs.declared.equation.Equation.{Equation}
+use Rattle.alloc_check_rules.specs.declared.change.Change.{Change}
+use Rattle.alloc_check_rules.specs.declared.change.Change.TheVariants.{Nothing, Defines, Copies}
+use Rattle.alloc_check_rules.specs.declared.demand.Demand.{Demand}
+use Rattle.alloc_check_rules.specs.declared.demand.Demand.TheVariants.{Met, Refused, Needs}
+use Rattle.alloc_check_rules.specs.Equations.{over_call, demand}
+use Rattle.alloc_check_rules.specs.Pairs.{equations_of, arguments_used, act_uses, uses, change_of, act_change, result_change, same_number, successors_of}
+use Rattle.alloc_check_rules.specs.Rules.{baseline_limit, equations_at, IsInOrder, IsGiven, IsAnswered, IsCarried, StandsFor, HoldsAtEntry, IsRightAs, IsAllocated}
 use Rattle.alloc_check_live.specs.Liveness.{named, used_by_act, used_by, defined_by_act, defined_by, used_of, defined_of, onward_of}
 use Rattle.alloc_check_live.specs.Lists.{registers_at, RisesFrom, AreLive}
 use Rattle.alloc_check_live.proofs.Lives.{live_fits}

@@ -15,11 +15,11 @@ use Rattle.rtl_parts.specs.declared.arguments.Arguments.TheVariants.{One, Two}
 use Rattle.rtl_parts.specs.declared.act.Act.{Act}
 use Rattle.rtl_parts.specs.declared.act.Act.TheVariants.{Nop, Constant, Move, Operate, Load, Store, Put}
 use Rattle.rtl_parts.specs.Fits.{RegisterFits, TargetFits, ArgumentsFit, ActFits}
-use Rattle.alloc_check_live.specs.Instruction.{Instruction}
-use Rattle.alloc_check_live.specs.Instruction.TheVariants.{Do, Call, Branch, Return}
-use Rattle.alloc_check_live.specs.RtlLanguageFunction.{FunctionData, IsFunction, InstructionFits}
+use Rattle.rtl_language.specs.declared.instruction.Instruction.{Instruction}
+use Rattle.rtl_language.specs.declared.instruction.Instruction.TheVariants.{Do, Call, Branch, Return}
+use Rattle.rtl_language.specs.Function.{FunctionData, IsFunction, InstructionFits}
 use Rattle.ltl.specs.Function as ltl
-use Rattle.alloc_check_live.specs.Rules.{baseline_limit}
+use Rattle.alloc_check_rules.specs.Rules.{baseline_limit}
 use Rattle.alloc_check.specs.Slots.{slot, fetch, keep, arguments_before, arguments_in, act_before, act_in, act_after, block_in, function_in}
 
 pub slot_tells : (r q : ℕ) → slot r ≡ slot q → r ≡ q

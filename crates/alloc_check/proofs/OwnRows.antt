@@ -5,14 +5,14 @@ use Rattle.std.proofs.lemmas.Bool.{eq-eqb, ne_eqb}
 use Rattle.std.proofs.lemmas.List.Elements.{All-nil, All-cons, All-append}
 use Rattle.std.proofs.lemmas.List.{append_assoc, drop_more}
 use Rattle.std.proofs.lemmas.Option.{same_Some}
-use Rattle.alloc_check_live.specs.RtlLanguageFunction as rtl
-use Rattle.alloc_check_verdict.specs.NodeRow.{NodeRow}
-use Rattle.alloc_check_verdict.specs.Marks.{feeder, AreFeeders}
-use Rattle.alloc_check_verdict.specs.Ranked.{RiseFrom}
-use Rattle.alloc_check_verdict.specs.Rows.{place_of, entries_at, IsRow, AreRows}
-use Rattle.alloc_check_live.specs.Equation.{Equation}
-use Rattle.alloc_check_live.specs.Rules.{IsInOrder}
-use Rattle.alloc_check_verdict.specs.Allocated.{is_marked}
+use Rattle.rtl_language.specs.Function as rtl
+use Rattle.rtl_passes_marks.specs.declared.row.NodeRow.{NodeRow}
+use Rattle.rtl_passes_marks.specs.Marks.{feeder, AreFeeders}
+use Rattle.rtl_passes_marks.specs.Ranked.{RiseFrom}
+use Rattle.rtl_passes_marks.specs.Rows.{place_of, entries_at, IsRow, AreRows}
+use Rattle.alloc_check_rules.specs.declared.equation.Equation.{Equation}
+use Rattle.alloc_check_rules.specs.Rules.{IsInOrder}
+use Rattle.alloc_check_filled.specs.Allocated.{is_marked}
 use Rattle.alloc_check_verdict.proofs.Known.{is_marked_from}
 use Rattle.alloc_check_live.specs.Lists.{registers_at}
 use Rattle.alloc_check.specs.Slots.{own}

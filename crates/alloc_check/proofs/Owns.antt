@@ -3,9 +3,9 @@ use Rattle.std.proofs.Common.{◌≡◌, ℕ, zero, suc, ◌<◌, ◌^◌, List,
 use Rattle.std.specs.Prelude.{map, Contains}
 use Rattle.std.proofs.lemmas.List.{length-map, get_or-map}
 use Rattle.std.proofs.lemmas.List.Elements.{All-map, Contains-get_or}
-use Rattle.alloc_check_live.specs.Instruction.{Instruction}
-use Rattle.alloc_check_live.specs.Equation.{Equation}
-use Rattle.alloc_check_live.specs.Rules.{EquationFits, equations_at, Rise, IsInOrder}
+use Rattle.rtl_language.specs.declared.instruction.Instruction.{Instruction}
+use Rattle.alloc_check_rules.specs.declared.equation.Equation.{Equation}
+use Rattle.alloc_check_rules.specs.Rules.{EquationFits, equations_at, Rise, IsInOrder}
 use Rattle.alloc_check_live.specs.Lists.{registers_at, RisesFrom, AreLive}
 use Rattle.alloc_check_live.proofs.Risings.{rises_few}
 use Rattle.alloc_check.specs.Slots.{own}

@@ -1,13 +1,13 @@
 -- The baseline of the pass: each register in a slot of its own, and at each marked node the equations of the live registers.
 use Rattle.std.specs.Prelude.{◌≡◌, ℕ, ◌<◌, ◌↔◌, List, [], length, true, false, Contains}
-use Rattle.alloc_check_live.specs.Instruction.{Instruction}
-use Rattle.alloc_check_live.specs.RtlLanguageFunction as rtl
+use Rattle.rtl_language.specs.declared.instruction.Instruction.{Instruction}
+use Rattle.rtl_language.specs.Function as rtl
 use Rattle.ltl.specs.Function as ltl
-use Rattle.alloc_check_verdict.specs.NodeRow.{NodeRow}
-use Rattle.alloc_check_verdict.specs.Rows.{entries_at, AreRows}
-use Rattle.alloc_check_live.specs.Equation.{Equation}
-use Rattle.alloc_check_live.specs.Rules.{Rise, IsInOrder}
-use Rattle.alloc_check_verdict.specs.Allocated.{is_marked}
+use Rattle.rtl_passes_marks.specs.declared.row.NodeRow.{NodeRow}
+use Rattle.rtl_passes_marks.specs.Rows.{entries_at, AreRows}
+use Rattle.alloc_check_rules.specs.declared.equation.Equation.{Equation}
+use Rattle.alloc_check_rules.specs.Rules.{Rise, IsInOrder}
+use Rattle.alloc_check_filled.specs.Allocated.{is_marked}
 use Rattle.alloc_check_live.specs.Liveness.{IsLive}
 use Rattle.alloc_check.specs.Slots.{own, function_in}
 

@@ -2,7 +2,3 @@ pub mod Baseline
 pub mod Slots
 pub mod Rows
 pub mod PassLaws
-pub use Rattle.alloc_check_verdict.specs.Allocated
-pub use Rattle.alloc_check_verdict.specs.Text
-pub use Rattle.alloc_check_live.specs.Equation
-pub use Rattle.alloc_check_verdict.specs.Right

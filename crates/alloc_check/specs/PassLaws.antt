@@ -6,20 +6,20 @@ use Rattle.lang_base.specs.Keeps.{Keeps}
 use Rattle.lang_base.specs.declared.program.Program.{Program}
 use Rattle.lang_base.specs.Soundness.{AllFit, Accepted}
 use Rattle.lang_base.proofs.Forms.{one_text}
-use Rattle.alloc_check_live.specs.RtlLanguageFunction as rtl
-use Rattle.alloc_check_live.specs.Meaning as rtl_meaning
+use Rattle.rtl_language.specs.Function as rtl
+use Rattle.rtl_language.specs.Meaning as rtl_meaning
 use Rattle.ltl.specs.Function as ltl
 use Rattle.ltl.specs.Meaning.{run}
-use Rattle.alloc_check_live.specs.ListForm.{ListFits}
-use Rattle.alloc_check_verdict.specs.NodeRow.{NodeRow}
-use Rattle.alloc_check_verdict.specs.RowForm.{RowFits}
-use Rattle.alloc_check_verdict.specs.Rows.{place_of, IsRow}
+use Rattle.rtl_passes.specs.ListForm.{ListFits}
+use Rattle.rtl_passes_marks.specs.declared.row.NodeRow.{NodeRow}
+use Rattle.rtl_passes_marks.specs.RowForm.{RowFits}
+use Rattle.rtl_passes_marks.specs.Rows.{place_of, IsRow}
 use Rattle.rtl_passes_marks.proofs.Short.{few_between}
-use Rattle.alloc_check_live.specs.Equation.{Equation}
-use Rattle.alloc_check_live.specs.Rules.{EquationFits, IsInOrder}
-use Rattle.alloc_check_verdict.specs.Allocated.{IsAllocated}
+use Rattle.alloc_check_rules.specs.declared.equation.Equation.{Equation}
+use Rattle.alloc_check_rules.specs.Rules.{EquationFits, IsInOrder}
+use Rattle.alloc_check_filled.specs.Allocated.{IsAllocated}
 use Rattle.alloc_check_verdict.proofs.Passed.{sound}
-use Rattle.alloc_check_verdict.specs.Text.{CertFits, cert_text}
+use Rattle.alloc_check_laws.specs.Text.{CertFits, cert_text}
 use Rattle.alloc_check_verdict.proofs.Passed.{rows_of_equations}
 
 -- what is accepted keeps the meaning

@@ -1,7 +1,7 @@
 -- Rows of registers and their own slots, at marked nodes.
 use Rattle.std.specs.Prelude.{ℕ, suc, List, [], ◌∷◌, ◌++◌, Option, Some, None, map, slice_get}
-use Rattle.alloc_check_verdict.specs.NodeRow.{NodeRow}
-use Rattle.alloc_check_live.specs.Equation.{Equation}
+use Rattle.rtl_passes_marks.specs.declared.row.NodeRow.{NodeRow}
+use Rattle.alloc_check_rules.specs.declared.equation.Equation.{Equation}
 use Rattle.alloc_check.specs.Slots.{own}
 
 -- a row for the node, if it is marked and there are registers

@@ -9,9 +9,9 @@ use Rattle.rtl_parts.specs.declared.arguments.Arguments.{Arguments}
 use Rattle.rtl_parts.specs.declared.arguments.Arguments.TheVariants.{One, Two}
 use Rattle.rtl_parts.specs.declared.act.Act.{Act}
 use Rattle.rtl_parts.specs.declared.act.Act.TheVariants.{Nop, Constant, Move, Operate, Load, Store, Put}
-use Rattle.alloc_check_live.specs.Instruction.{Instruction}
-use Rattle.alloc_check_live.specs.Instruction.TheVariants.{Do, Call, Branch, Return}
-use Rattle.alloc_check_live.specs.RtlLanguageFunction as rtl
+use Rattle.rtl_language.specs.declared.instruction.Instruction.{Instruction}
+use Rattle.rtl_language.specs.declared.instruction.Instruction.TheVariants.{Do, Call, Branch, Return}
+use Rattle.rtl_language.specs.Function as rtl
 use Rattle.machine.specs.declared.arguments.Arguments as machine_arguments
 use Rattle.machine.specs.declared.arguments.Arguments.TheVariants as arguments
 use Rattle.machine.specs.declared.act.Act as machine_act
@@ -20,7 +20,7 @@ use Rattle.ltl.specs.declared.block.Block.{Block}
 use Rattle.ltl.specs.declared.block.Body.{Body}
 use Rattle.ltl.specs.declared.block.Body.TheVariants as body
 use Rattle.ltl.specs.Function as ltl
-use Rattle.alloc_check_live.specs.Equation.{Equation}
+use Rattle.alloc_check_rules.specs.declared.equation.Equation.{Equation}
 
 -- a register's slot
 abbrev pub slot : ℕ → Location

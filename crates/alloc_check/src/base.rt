@@ -1,13 +1,14 @@
 ghost use Rattle.std.specs.Prelude.{◌≡◌, ◌≢◌, ◌≤◌, IfOk, IfErr};
-ghost use Rattle.alloc_check_live.specs.Rules.{baseline_limit, IsTooLarge};
-ghost use Rattle.alloc_check_verdict.specs.Allocated.{IsAllocated};
+ghost use Rattle.alloc_check_rules.specs.Rules.{baseline_limit, IsTooLarge};
+ghost use Rattle.alloc_check_filled.specs.Allocated.{IsAllocated};
 ghost use Rattle.alloc_check.specs.Baseline.{AreLiveRows};
 ghost use Rattle.alloc_check.specs.Slots.{function_in};
 
 use crate::function::function_in;
 use crate::lists::own_rows;
 use alloc_check_live::live_registers;
-use alloc_check_verdict::{EquationLists, feeders_of};
+use alloc_check_verdict::EquationLists;
+use rtl_passes_marks::feeders_of;
 use lang_base::{NoMemory, PassError};
 use lang_parts::beside;
 use std::alloc::Global;
@@ -15,7 +16,7 @@ use std::alloc::Global;
 /// The equations of the registers that are live, at marked nodes.
 fn live_equations(
     alloc: Global,
-    input: &alloc_check_live::Function,
+    input: &rtl_language::Function,
 ) -> Result<EquationLists, NoMemory>
     requires { input.now.registers ≤ baseline_limit }
     ensures live { IfOk result (λ rows. AreLiveRows input.now rows) }
@@ -32,7 +33,7 @@ fn live_equations(
 /// Refuses more than 2,048 registers.
 pub fn baseline(
     alloc: Global,
-    input: &alloc_check_live::Function,
+    input: &rtl_language::Function,
 ) -> Result<(ltl::Function, EquationLists), PassError>
     ensures output { IfOk result (λ made. made.0 ≡ function_in input.now) }
     ensures live { IfOk result (λ made. AreLiveRows input.now made.1) }

@@ -1,11 +1,11 @@
 //! The function whose registers lie in slots of their own.
 
 ghost use Rattle.std.specs.Prelude.{◌≡◌, ◌≤◌, map, IfOk};
-ghost use Rattle.alloc_check_live.specs.Rules.{baseline_limit};
+ghost use Rattle.alloc_check_rules.specs.Rules.{baseline_limit};
 ghost use Rattle.alloc_check.specs.Slots.{block_in, function_in};
 
 use crate::nodes::{block_in, slots_of};
-use alloc_check_live::Instruction;
+use rtl_language::Instruction;
 use lang_base::{NoMemory, Row};
 use ltl::Block;
 use std::alloc::Global;
@@ -24,7 +24,7 @@ fn blocks_in(alloc: Global, nodes: &[Instruction]) -> Result<Vec<Block>, NoMemor
 /// The output, for an input with few registers.
 pub(crate) fn function_in(
     alloc: Global,
-    input: &alloc_check_live::Function,
+    input: &rtl_language::Function,
 ) -> Result<ltl::Function, NoMemory>
     requires { input.now.registers ≤ baseline_limit }
     ensures { IfOk result (λ output. output ≡ function_in input.now) }

@@ -10,8 +10,7 @@ mod lists;
 mod nodes;
 mod pass;
 
-pub use alloc_check_verdict::{
-    Equation, EquationLists, Fault, NodeRow, check, entries_of as equations_of, why,
-};
+pub use alloc_check_rules::Equation;
+pub use alloc_check_verdict::{EquationLists, check, why};
 pub use base::baseline;
 pub use pass::Alloc;

@@ -4,8 +4,9 @@ ghost use Rattle.std.specs.Prelude.{◌≡◌, ◌<◌, ◌^◌, ◌++◌, map, 
 ghost use Rattle.alloc_check.specs.Rows.{row_at, rows_from};
 ghost use Rattle.alloc_check.specs.Slots.{own};
 
-use alloc_check_live::{Equation, Numbers};
-use alloc_check_verdict::NodeRow;
+use alloc_check_rules::Equation;
+use alloc_check_live::Numbers;
+use rtl_passes_marks::NodeRow;
 use lang_base::{NoMemory, Row};
 use locations::Location;
 use rtl_parts::Register;

@@ -6,7 +6,7 @@ ghost use Rattle.alloc_check.specs.Slots.{slot, before_in, body_in, block_in};
 use crate::blocks::{
     act_after, act_before, act_in, arguments_before, arguments_in, fetch_one, none,
 };
-use alloc_check_live::Instruction;
+use rtl_language::Instruction;
 use lang_base::{NoMemory, Row};
 use locations::{Location, Move};
 use ltl::{Block, Body};

@@ -1,6 +1,7 @@
 use crate::base::baseline;
-use alloc_check_live::Rtl;
-use alloc_check_verdict::{EquationLists, Equations, Sizes, check, read_rows, write_rows};
+use rtl_language::Rtl;
+use alloc_check_verdict::{EquationLists, Equations, Sizes, check};
+use rtl_passes_marks::{read_rows, write_rows};
 use lang_base::{FormError, NoMemory, Pass, PassError, Row};
 use ltl::Ltl;
 use std::alloc::Global;
@@ -10,9 +11,9 @@ pub struct Alloc;
 
 impl Pass for Alloc {
     ghost use Rattle.std.specs.Prelude.{◌≡◌, ◌≢◌, ◌≤◌, ℕ, List, ◌++◌, length, take, IsTrue, ◌↔◌, OnOk, OnErr, IfOk, IfErr};
-    ghost use Rattle.alloc_check_live.specs.Rules.{IsTooLarge};
-    ghost use Rattle.alloc_check_verdict.specs.Allocated.{IsAllocated};
-    ghost use Rattle.alloc_check_verdict.specs.Text.{CertFits, cert_text};
+    ghost use Rattle.alloc_check_rules.specs.Rules.{IsTooLarge};
+    ghost use Rattle.alloc_check_filled.specs.Allocated.{IsAllocated};
+    ghost use Rattle.alloc_check_laws.specs.Text.{CertFits, cert_text};
     ghost use Rattle.alloc_check.specs.Baseline.{IsBaseline};
     ghost use Rattle.alloc_check.specs.PassLaws.{allocated_fits, one_cert, sound_law};
 
@@ -36,7 +37,7 @@ impl Pass for Alloc {
 
     fn check(
         alloc: Global,
-        input: &alloc_check_live::Function,
+        input: &rtl_language::Function,
         output: &ltl::Function,
         equations: &EquationLists,
     ) -> Result<bool, NoMemory> {
@@ -45,7 +46,7 @@ impl Pass for Alloc {
 
     fn baseline(
         alloc: Global,
-        input: &alloc_check_live::Function,
+        input: &rtl_language::Function,
     ) -> Result<(ltl::Function, EquationLists), PassError>
         ensures accepted { IfOk result (λ made. IsAllocated input.now made.0 made.1) }
         ensures refused { IfErr result (λ e. e ≢ PassError.NoMemory → IsTooLarge input.now) }
@@ -55,7 +56,7 @@ impl Pass for Alloc {
     }
 
     fn write_cert(
-        _input: &alloc_check_live::Function,
+        _input: &rtl_language::Function,
         _output: &ltl::Function,
         equations: &EquationLists,
         out: &mut Vec<u8>,
@@ -65,7 +66,7 @@ impl Pass for Alloc {
 
     fn read_cert(
         alloc: Global,
-        input: &alloc_check_live::Function,
+        input: &rtl_language::Function,
         output: &ltl::Function,
         bytes: &[u8],
     ) -> Result<(EquationLists, usize), FormError> {

@@ -6,10 +6,10 @@ use Rattle.std.specs.Ordering.{nat_cmp, is_eq}
 use Rattle.std.specs.BTreeMap.{BTreeMap, get, Updates}
 use Rattle.std.proofs.lemmas.Bool.Decides.{nat_tests}
 use Rattle.std.proofs.lemmas.List.{take_all}
-use Rattle.machine.specs.Location.{Location}
-use Rattle.machine.specs.Location.TheVariants.{InRegister, InSlot}
-use Rattle.machine.specs.Move.{Move}
-use Rattle.machine.specs.LocationsReading.{same_location}
+use Rattle.locations.specs.declared.location.Location.{Location}
+use Rattle.locations.specs.declared.location.Location.TheVariants.{InRegister, InSlot}
+use Rattle.locations.specs.declared.location.Move.{Move}
+use Rattle.locations.specs.Reading.{same_location}
 use Rattle.alloc_check_rules.specs.Equations.{back, back_move}
 use Rattle.alloc_check_blocks.specs.Origins.{key, origin, AreOrigins}
 use Rattle.alloc_check_blocks.proofs.Moves.{back_last}

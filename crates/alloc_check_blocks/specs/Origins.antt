@@ -3,9 +3,9 @@ use Rattle.std.specs.Prelude.{◌≡◌, ℕ, ◌+◌, ◌*◌, List, Option, So
 use Rattle.std.specs.Option.{unwrap_or}
 use Rattle.std.specs.Ordering.{nat_cmp}
 use Rattle.std.specs.BTreeMap.{BTreeMap, get}
-use Rattle.machine.specs.Location.{Location}
-use Rattle.machine.specs.Location.TheVariants.{InRegister, InSlot}
-use Rattle.machine.specs.Move.{Move}
+use Rattle.locations.specs.declared.location.Location.{Location}
+use Rattle.locations.specs.declared.location.Location.TheVariants.{InRegister, InSlot}
+use Rattle.locations.specs.declared.location.Move.{Move}
 use Rattle.alloc_check_rules.specs.Equations.{back}
 
 -- a number for each location: even for registers, odd for slots

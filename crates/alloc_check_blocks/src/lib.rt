@@ -8,9 +8,6 @@ mod origins;
 mod pairs;
 mod traced;
 
-pub use alloc_check_rules::{
-    Act, Arguments, Block, Body, Change, Demand, Equation, Instruction, Register,
-};
 pub use origins::is_at;
 pub use pairs::change_of;
 pub use traced::TracedBlock;

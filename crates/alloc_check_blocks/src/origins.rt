@@ -1,12 +1,12 @@
 //! Where the words that locations hold behind moves lay before them, found in one pass over the moves.
 
 ghost use Rattle.std.specs.Prelude.{◌≡◌, ◌↔◌, ℕ, IfOk, IsTrue};
-ghost use Rattle.machine.specs.Location.{Location as location};
+ghost use Rattle.locations.specs.declared.location.Location.{Location as location};
 ghost use Rattle.alloc_check_rules.specs.Equations.{back};
 ghost use Rattle.alloc_check_blocks.specs.Origins.{key, origin, AreOrigins};
 
 use lang_base::NoMemory;
-use machine::{Location, Move};
+use locations::{Location, Move};
 use std::alloc::Global;
 use std::collections::BTreeMap;
 use std::marker::Model;
@@ -21,7 +21,7 @@ pub(crate) struct Origins<'a> {
 
 impl<'a> Model for Origins<'a> {
     ghost use Rattle.std.specs.Prelude.{List};
-    ghost use Rattle.machine.specs.Move.{Move};
+    ghost use Rattle.locations.specs.declared.location.Move.{Move};
     ghost use Rattle.alloc_check_blocks.specs.Origins.{AreOrigins};
 
     ghost Value = { List Move };

@@ -2,12 +2,12 @@
 use Rattle.std.proofs.Common.{◌≡◌, ℕ, List, [], Option, Some, None, Bool, true, false, cond, refl, sym, subst}
 use Rattle.std.specs.Prelude.{Contains, map}
 use Rattle.std.specs.List.{flat_map, list_any}
-use Rattle.alloc_check_blocks.specs.Instruction.{Instruction}
-use Rattle.alloc_check_blocks.specs.Block.{Block}
-use Rattle.alloc_check_blocks.specs.Equation.{Equation}
-use Rattle.alloc_check_blocks.specs.Change.{Change}
-use Rattle.alloc_check_blocks.specs.Equations.{back_equation}
-use Rattle.alloc_check_blocks.specs.Rules.{equations_at, StandsFor}
+use Rattle.rtl_language.specs.declared.instruction.Instruction.{Instruction}
+use Rattle.ltl.specs.declared.block.Block.{Block}
+use Rattle.alloc_check_rules.specs.declared.equation.Equation.{Equation}
+use Rattle.alloc_check_rules.specs.declared.change.Change.{Change}
+use Rattle.alloc_check_rules.specs.Equations.{back_equation}
+use Rattle.alloc_check_rules.specs.Rules.{equations_at, StandsFor}
 use Rattle.alloc_check_fill.specs.Fill.{is_refused, demands, inside, needed_as, behind}
 use Rattle.alloc_check_fill.specs.Needed.{KeepsAs}
 use Rattle.alloc_check_fill.specs.Sets.{Within, SameSet}

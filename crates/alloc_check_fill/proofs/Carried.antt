@@ -3,16 +3,16 @@ use Rattle.std.proofs.Common.{◌≡◌, ℕ, zero, suc, List, [], get_or, Optio
 use Rattle.std.specs.Prelude.{map, Contains}
 use Rattle.std.specs.List.{flat_map, list_any}
 use Rattle.std.proofs.lemmas.List.Elements.{Contains-get_or, All-contains, Contains-append_left, Contains-append_right, Contains-append_cases}
-use Rattle.machine.specs.Move.{Move}
-use Rattle.alloc_check_blocks.specs.Instruction.{Instruction}
-use Rattle.alloc_check_blocks.specs.Block.{Block}
-use Rattle.alloc_check_blocks.specs.Equation.{Equation}
-use Rattle.alloc_check_blocks.specs.Change.{Change}
-use Rattle.alloc_check_blocks.specs.Demand.{Demand}
-use Rattle.alloc_check_blocks.specs.Demand.TheVariants.{Met, Refused, Needs}
-use Rattle.alloc_check_blocks.specs.Equations.{back_equation, demand}
-use Rattle.alloc_check_blocks.specs.Pairs.{uses, successors_of}
-use Rattle.alloc_check_blocks.specs.Rules.{equations_at, IsGiven, IsAnswered, LeadsTo, IsCarried, StandsFor}
+use Rattle.locations.specs.declared.location.Move.{Move}
+use Rattle.rtl_language.specs.declared.instruction.Instruction.{Instruction}
+use Rattle.ltl.specs.declared.block.Block.{Block}
+use Rattle.alloc_check_rules.specs.declared.equation.Equation.{Equation}
+use Rattle.alloc_check_rules.specs.declared.change.Change.{Change}
+use Rattle.alloc_check_rules.specs.declared.demand.Demand.{Demand}
+use Rattle.alloc_check_rules.specs.declared.demand.Demand.TheVariants.{Met, Refused, Needs}
+use Rattle.alloc_check_rules.specs.Equations.{back_equation, demand}
+use Rattle.alloc_check_rules.specs.Pairs.{uses, successors_of}
+use Rattle.alloc_check_rules.specs.Rules.{equations_at, IsGiven, IsAnswered, LeadsTo, IsCarried, StandsFor}
 use Rattle.alloc_check_fill.specs.Fill.{is_refused, needs_of, demands, inside, needed_as, behind}
 use Rattle.alloc_check_fill.specs.Sets.{Within, SameSet}
 use Rattle.alloc_check_fill.proofs.Members.{first_of, none_of, all_members, mapped_has, mapped_from, joined_has, joined_from, none_passes, none_told}

@@ -6,7 +6,3 @@ pub mod Fixed
 pub mod Places
 pub mod Sames
 pub mod Steps
-pub use Rattle.alloc_check_blocks.proofs.Acts
-pub use Rattle.alloc_check_blocks.proofs.Changes
-pub use Rattle.alloc_check_blocks.proofs.Entries
-pub use Rattle.alloc_check_blocks.proofs.AllocCheckRulesLocations

@@ -3,8 +3,8 @@ use Rattle.std.proofs.Common.{◌≡◌, ℕ, zero, suc, ◌+◌, ◌≤◌, Lis
 use Rattle.std.specs.Prelude.{map, slice_get}
 use Rattle.std.proofs.lemmas.List.{append_assoc, map-append, take_more}
 use Rattle.std.proofs.lemmas.Option.{slice_get_within, get_or_from_slice_get}
-use Rattle.machine.specs.Location.{Location}
-use Rattle.alloc_check_blocks.specs.Pairs.{equations_of}
+use Rattle.locations.specs.declared.location.Location.{Location}
+use Rattle.alloc_check_rules.specs.Pairs.{equations_of}
 
 pub pairs_few : (rs : List ℕ) (ls : List Location) → length (equations_of rs ls) ≤ length rs
 pairs_few [] ls = omega arith

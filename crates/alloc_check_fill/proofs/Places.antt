@@ -5,31 +5,31 @@ use Rattle.std.specs.List.{AllByRecursion, flat_map, list_any}
 use Rattle.std.proofs.lemmas.Bool.{cases_lt}
 use Rattle.std.proofs.lemmas.List.{get_or_past}
 use Rattle.std.proofs.lemmas.List.Elements.{All-nil, All-cons, All-map, All-append, All-contains, All-from_recursion}
-use Rattle.machine.specs.Location.{Location}
-use Rattle.machine.specs.LocationsFits.{LocationFits, MoveFits}
-use Rattle.machine.specs.LocationsReading.{same_location}
-use Rattle.alloc_check_blocks.specs.Arguments.{Arguments}
-use Rattle.alloc_check_blocks.specs.Arguments.TheVariants.{One, Two}
-use Rattle.alloc_check_blocks.specs.Act.{Act}
-use Rattle.alloc_check_blocks.specs.Act.TheVariants.{Operate, Load, Store, Put}
-use Rattle.alloc_check_blocks.specs.Instruction.{Instruction}
-use Rattle.alloc_check_blocks.specs.Instruction.TheVariants.{Do, Call, Branch, Return}
+use Rattle.locations.specs.declared.location.Location.{Location}
+use Rattle.locations.specs.Fits.{LocationFits, MoveFits}
+use Rattle.locations.specs.Reading.{same_location}
+use Rattle.rtl_parts.specs.declared.arguments.Arguments.{Arguments}
+use Rattle.rtl_parts.specs.declared.arguments.Arguments.TheVariants.{One, Two}
+use Rattle.rtl_parts.specs.declared.act.Act.{Act}
+use Rattle.rtl_parts.specs.declared.act.Act.TheVariants.{Operate, Load, Store, Put}
+use Rattle.rtl_language.specs.declared.instruction.Instruction.{Instruction}
+use Rattle.rtl_language.specs.declared.instruction.Instruction.TheVariants.{Do, Call, Branch, Return}
 use Rattle.machine.specs.declared.arguments.Arguments as machine_arguments
 use Rattle.machine.specs.declared.arguments.Arguments.TheVariants as arguments
 use Rattle.machine.specs.declared.act.Act as machine_act
 use Rattle.machine.specs.declared.act.Act.TheVariants as act
 use Rattle.machine.specs.Fits as machine_fits
-use Rattle.alloc_check_blocks.specs.Block.{Block}
-use Rattle.alloc_check_blocks.specs.Body.{Body}
-use Rattle.alloc_check_blocks.specs.Body.TheVariants as body
-use Rattle.alloc_check_blocks.specs.Function as ltl
-use Rattle.alloc_check_blocks.specs.Equation.{Equation}
-use Rattle.alloc_check_blocks.specs.Change.{Change}
-use Rattle.alloc_check_blocks.specs.Change.TheVariants.{Nothing, Defines, Drops, Copies}
-use Rattle.alloc_check_blocks.specs.Demand.{Demand}
-use Rattle.alloc_check_blocks.specs.Demand.TheVariants.{Met, Refused, Needs}
-use Rattle.alloc_check_blocks.specs.Equations.{back, back_equation, through, is_lost, over_call, through_body, demand}
-use Rattle.alloc_check_blocks.specs.Pairs.{change_of, equations_of, arguments_used, act_uses, uses, successors_of}
+use Rattle.ltl.specs.declared.block.Block.{Block}
+use Rattle.ltl.specs.declared.block.Body.{Body}
+use Rattle.ltl.specs.declared.block.Body.TheVariants as body
+use Rattle.ltl.specs.Function as ltl
+use Rattle.alloc_check_rules.specs.declared.equation.Equation.{Equation}
+use Rattle.alloc_check_rules.specs.declared.change.Change.{Change}
+use Rattle.alloc_check_rules.specs.declared.change.Change.TheVariants.{Nothing, Defines, Drops, Copies}
+use Rattle.alloc_check_rules.specs.declared.demand.Demand.{Demand}
+use Rattle.alloc_check_rules.specs.declared.demand.Demand.TheVariants.{Met, Refused, Needs}
+use Rattle.alloc_check_rules.specs.Equations.{back, back_equation, through, is_lost, over_call, through_body, demand}
+use Rattle.alloc_check_rules.specs.Pairs.{change_of, equations_of, arguments_used, act_uses, uses, successors_of}
 use Rattle.alloc_check_blocks.proofs.Locations.{back_fits}
 use Rattle.alloc_check_fill.specs.Fill.{is_refused, needs_of, demands, inside, needed_as, needed, behind, known, fill_from, fill}
 use Rattle.alloc_check_fill.specs.Right.{HasPlace}

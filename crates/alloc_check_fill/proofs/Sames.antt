@@ -3,8 +3,8 @@ use Rattle.std.proofs.Common.{◌≡◌, Bool, true, false, ◌&&◌, refl, sym,
 use Rattle.std.specs.Prelude.{nat_eq}
 use Rattle.std.specs.Cmp.{IsEquivalence}
 use Rattle.std.proofs.lemmas.Bool.{eqb-true, eq-eqb, and_parts, and_from}
-use Rattle.machine.specs.LocationsReading.{same_location}
-use Rattle.alloc_check_blocks.specs.Equation.{Equation}
+use Rattle.locations.specs.Reading.{same_location}
+use Rattle.alloc_check_rules.specs.declared.equation.Equation.{Equation}
 use Rattle.alloc_check_blocks.proofs.Locations.{is_same, same_itself}
 
 abbrev pub same : Equation → Equation → Bool

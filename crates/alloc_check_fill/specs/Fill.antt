@@ -1,14 +1,14 @@
 -- The equations at nodes for which there is no row: what each block needs before it, found by going back from the rows.
 use Rattle.std.specs.Prelude.{ℕ, suc, ◌-◌, List, [], ◌∷◌, ◌++◌, Option, Some, None, Bool, true, false, map, slice_index_or, if◌then◌else◌}
 use Rattle.std.specs.List.{flat_map, list_any}
-use Rattle.alloc_check_blocks.specs.Instruction.{Instruction}
-use Rattle.alloc_check_blocks.specs.Block.{Block}
-use Rattle.alloc_check_blocks.specs.Equation.{Equation}
-use Rattle.alloc_check_blocks.specs.Change.{Change}
-use Rattle.alloc_check_blocks.specs.Demand.{Demand}
-use Rattle.alloc_check_blocks.specs.Demand.TheVariants.{Met, Refused, Needs}
-use Rattle.alloc_check_blocks.specs.Equations.{back_equation, demand}
-use Rattle.alloc_check_blocks.specs.Pairs.{change_of, uses, successors_of}
+use Rattle.rtl_language.specs.declared.instruction.Instruction.{Instruction}
+use Rattle.ltl.specs.declared.block.Block.{Block}
+use Rattle.alloc_check_rules.specs.declared.equation.Equation.{Equation}
+use Rattle.alloc_check_rules.specs.declared.change.Change.{Change}
+use Rattle.alloc_check_rules.specs.declared.demand.Demand.{Demand}
+use Rattle.alloc_check_rules.specs.declared.demand.Demand.TheVariants.{Met, Refused, Needs}
+use Rattle.alloc_check_rules.specs.Equations.{back_equation, demand}
+use Rattle.alloc_check_rules.specs.Pairs.{change_of, uses, successors_of}
 
 -- ---- what one block needs
 

@@ -3,16 +3,3 @@ pub mod Sets
 pub mod Right
 pub mod Ranks
 pub mod Needed
-pub use Rattle.alloc_check_blocks.specs.Pairs
-pub use Rattle.alloc_check_blocks.specs.Rules
-pub use Rattle.alloc_check_blocks.specs.Equation
-pub use Rattle.alloc_check_blocks.specs.Equations
-pub use Rattle.alloc_check_blocks.specs.Holding
-pub use Rattle.alloc_check_blocks.specs.Steps
-pub use Rattle.alloc_check_blocks.specs.Change
-pub use Rattle.alloc_check_blocks.specs.Demand
-pub use Rattle.alloc_check_blocks.specs.Function
-pub use Rattle.alloc_check_blocks.specs.Block
-pub use Rattle.alloc_check_blocks.specs.Body
-pub use Rattle.alloc_check_blocks.specs.Growth
-pub use Rattle.alloc_check_blocks.specs.LtlMeaning

@@ -1,12 +1,12 @@
 -- Whether a block breaks a rule, and what is told of it.
 use Rattle.std.specs.Prelude.{◌≡◌, List, ◌++◌, map, Option, Some, None, Bool, true, false}
 use Rattle.std.specs.List.{flat_map, list_any}
-use Rattle.alloc_check_blocks.specs.Instruction.{Instruction}
-use Rattle.alloc_check_blocks.specs.Block.{Block}
-use Rattle.alloc_check_blocks.specs.Equation.{Equation}
-use Rattle.alloc_check_blocks.specs.Change.{Change}
-use Rattle.alloc_check_blocks.specs.Equations.{back_equation}
-use Rattle.alloc_check_blocks.specs.Pairs.{change_of}
+use Rattle.rtl_language.specs.declared.instruction.Instruction.{Instruction}
+use Rattle.ltl.specs.declared.block.Block.{Block}
+use Rattle.alloc_check_rules.specs.declared.equation.Equation.{Equation}
+use Rattle.alloc_check_rules.specs.declared.change.Change.{Change}
+use Rattle.alloc_check_rules.specs.Equations.{back_equation}
+use Rattle.alloc_check_rules.specs.Pairs.{change_of}
 use Rattle.alloc_check_fill.specs.Fill.{is_refused, needs_of, demands, needed}
 
 -- the block does what the instruction does, and nothing behind it demands what could not hold

@@ -1,8 +1,8 @@
 -- Where equations stand in the order of a list, by numbers.
 use Rattle.std.specs.Prelude.{ℕ, ◌+◌, ◌*◌}
-use Rattle.machine.specs.Location.{Location}
-use Rattle.machine.specs.Location.TheVariants.{InRegister, InSlot}
-use Rattle.alloc_check_blocks.specs.Equation.{Equation}
+use Rattle.locations.specs.declared.location.Location.{Location}
+use Rattle.locations.specs.declared.location.Location.TheVariants.{InRegister, InSlot}
+use Rattle.alloc_check_rules.specs.declared.equation.Equation.{Equation}
 
 -- registers are below slots
 abbrev pub location_rank : Location → ℕ

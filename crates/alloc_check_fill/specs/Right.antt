@@ -1,11 +1,11 @@
 -- What keeps the meaning: an output of the same shape, and for each node equations of any number in any order, in range and
 -- right by the rules.
 use Rattle.std.specs.Prelude.{◌≡◌, ℕ, ◌<◌, List, length, All}
-use Rattle.machine.specs.LocationsFits.{LocationFits}
-use Rattle.alloc_check_blocks.specs.RtlLanguageFunction as rtl
-use Rattle.alloc_check_blocks.specs.Function as ltl
-use Rattle.alloc_check_blocks.specs.Equation.{Equation}
-use Rattle.alloc_check_blocks.specs.Rules.{IsRightAt}
+use Rattle.locations.specs.Fits.{LocationFits}
+use Rattle.rtl_language.specs.Function as rtl
+use Rattle.ltl.specs.Function as ltl
+use Rattle.alloc_check_rules.specs.declared.equation.Equation.{Equation}
+use Rattle.alloc_check_rules.specs.Rules.{IsRightAt}
 
 -- as many parameters and nodes, and the same entry
 pub record SameShape (input : rtl.FunctionData) (output : ltl.FunctionData) : Type 0 where

@@ -6,7 +6,6 @@ mod needed;
 mod order;
 mod uses;
 
-pub use alloc_check_blocks::{Equation, is_at};
 pub use needed::needed_before;
 pub use order::{is_same, rank, tidy};
 pub use uses::pair_at;

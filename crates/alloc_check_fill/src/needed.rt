@@ -1,12 +1,15 @@
 //! What a block needs before it.
 
 ghost use Rattle.std.specs.Prelude.{◌≡◌, [], ◌∷◌, ◌++◌, map, not, OnOk, IfOk};
-ghost use Rattle.alloc_check_blocks.specs.Equations.{back_equation, demand};
+ghost use Rattle.alloc_check_rules.specs.Equations.{back_equation, demand};
 ghost use Rattle.alloc_check_fill.specs.Fill.{is_refused, needs_of};
 ghost use Rattle.alloc_check_fill.specs.Needed.{IsNeeded, IsNeededAs};
 
 use crate::uses::push_uses;
-use alloc_check_blocks::{Block, Change, Demand, Equation, Instruction, TracedBlock, change_of};
+use ltl::Block;
+use alloc_check_rules::{Change, Demand, Equation};
+use rtl_language::Instruction;
+use alloc_check_blocks::{TracedBlock, change_of};
 use lang_base::NoMemory;
 use std::alloc::Global;
 

@@ -1,13 +1,17 @@
 //! The equations that a block needs for what its instruction uses.
 
 ghost use Rattle.std.specs.Prelude.{◌≡◌, ◌++◌, map, slice_get, Some, OnOk};
-ghost use Rattle.alloc_check_blocks.specs.Equations.{back_equation};
-ghost use Rattle.alloc_check_blocks.specs.Pairs.{in_register, equations_of, arguments_used, act_uses, uses};
+ghost use Rattle.alloc_check_rules.specs.Equations.{back_equation};
+ghost use Rattle.alloc_check_rules.specs.Pairs.{in_register, equations_of, arguments_used, act_uses, uses};
 
 use crate::needed::push_before;
-use alloc_check_blocks::{Act, Arguments, Body, Equation, Instruction, Register, TracedBlock};
+use rtl_parts::{Act, Arguments, Register};
+use ltl::Body;
+use alloc_check_rules::Equation;
+use rtl_language::Instruction;
+use alloc_check_blocks::TracedBlock;
 use lang_base::NoMemory;
-use machine::{Location, Register as MachineRegister};
+use locations::{Location, Register as MachineRegister};
 
 fn in_register(name: Register, machine_register: MachineRegister) -> Equation
     ensures { result ≡ in_register name machine_register }

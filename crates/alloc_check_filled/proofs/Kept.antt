@@ -4,17 +4,17 @@ use Rattle.std.specs.Prelude.{All, Contains, slice_get}
 use Rattle.std.proofs.lemmas.Bool.{cases_lt}
 use Rattle.std.proofs.lemmas.List.{get_or_past}
 use Rattle.std.proofs.lemmas.Option.{slice_get_within, slice_get-get_or}
-use Rattle.rtl_passes_marks.specs.Instruction.{Instruction}
-use Rattle.rtl_passes_marks.specs.Instruction.TheVariants.{Return}
-use Rattle.rtl_passes_marks.specs.Function as rtl
-use Rattle.alloc_check_fill.specs.Block.{Block}
-use Rattle.alloc_check_fill.specs.Body.TheVariants as body
-use Rattle.alloc_check_fill.specs.Function as ltl
+use Rattle.rtl_language.specs.declared.instruction.Instruction.{Instruction}
+use Rattle.rtl_language.specs.declared.instruction.Instruction.TheVariants.{Return}
+use Rattle.rtl_language.specs.Function as rtl
+use Rattle.ltl.specs.declared.block.Block.{Block}
+use Rattle.ltl.specs.declared.block.Body.TheVariants as body
+use Rattle.ltl.specs.Function as ltl
 use Rattle.rtl_passes_marks.specs.declared.row.NodeRow.{NodeRow}
 use Rattle.rtl_passes_marks.specs.Rows.{entries_at, AreRows}
-use Rattle.alloc_check_fill.specs.Equation.{Equation}
-use Rattle.alloc_check_fill.specs.Pairs.{change_of, successors_of}
-use Rattle.alloc_check_fill.specs.Rules.{equations_at, IsInOrder, StandsFor, HoldsAtEntry, IsRightAs, IsRightAt}
+use Rattle.alloc_check_rules.specs.declared.equation.Equation.{Equation}
+use Rattle.alloc_check_rules.specs.Pairs.{change_of, successors_of}
+use Rattle.alloc_check_rules.specs.Rules.{equations_at, IsInOrder, StandsFor, HoldsAtEntry, IsRightAs, IsRightAt}
 use Rattle.alloc_check_fill.specs.Fill.{needed, behind}
 use Rattle.alloc_check_fill.specs.Sets.{Within}
 use Rattle.alloc_check_fill.specs.Right.{SameShape}

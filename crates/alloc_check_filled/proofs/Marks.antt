@@ -4,12 +4,12 @@ use Rattle.std.specs.Prelude.{Contains, slice_get, nat_eq, nat_lt}
 use Rattle.std.proofs.lemmas.Bool.{eq-eqb, ltb-true}
 use Rattle.std.proofs.lemmas.Option.{slice_get_within, slice_get-get_or, same_Some}
 use Rattle.std.proofs.lemmas.List.Elements.{Contains-append_left, Contains-append_right, All-from_recursion}
-use Rattle.rtl_passes_marks.specs.Instruction.{Instruction}
-use Rattle.rtl_passes_marks.specs.Instruction.TheVariants.{Do, Call, Branch, Return}
-use Rattle.rtl_passes_marks.specs.Function as rtl
+use Rattle.rtl_language.specs.declared.instruction.Instruction.{Instruction}
+use Rattle.rtl_language.specs.declared.instruction.Instruction.TheVariants.{Do, Call, Branch, Return}
+use Rattle.rtl_language.specs.Function as rtl
 use Rattle.rtl_passes_marks.specs.Edges.{edges_of, each_to, sources_from, sources}
 use Rattle.rtl_passes_marks.specs.Marks.{only_lower, feeder}
-use Rattle.alloc_check_fill.specs.Pairs.{successors_of}
+use Rattle.alloc_check_rules.specs.Pairs.{successors_of}
 use Rattle.alloc_check_fill.proofs.Members.{first_of, later_of, none_of, all_members}
 use Rattle.alloc_check_filled.specs.Allocated.{is_none, is_marked}
 

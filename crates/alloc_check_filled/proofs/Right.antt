@@ -2,13 +2,13 @@
 use Rattle.std.proofs.Common.{◌≡◌, ℕ, zero, suc, ◌<◌, List, [], ◌∷◌, length, get_or, Bool, true, false, cond, refl, arith}
 use Rattle.std.specs.Prelude.{All, nat_eq}
 use Rattle.std.proofs.lemmas.List.Elements.{All-nil, All-weaker, All-head, All-tail}
-use Rattle.rtl_passes_marks.specs.Instruction.{Instruction}
-use Rattle.rtl_passes_marks.specs.Function as rtl
-use Rattle.alloc_check_fill.specs.Function as ltl
+use Rattle.rtl_language.specs.declared.instruction.Instruction.{Instruction}
+use Rattle.rtl_language.specs.Function as rtl
+use Rattle.ltl.specs.Function as ltl
 use Rattle.rtl_passes_marks.specs.declared.row.NodeRow.{NodeRow}
 use Rattle.rtl_passes_marks.specs.Rows.{entries_at, IsRow, AreRows}
-use Rattle.alloc_check_fill.specs.Equation.{Equation}
-use Rattle.alloc_check_fill.specs.Rules.{EquationFits, IsInOrder}
+use Rattle.alloc_check_rules.specs.declared.equation.Equation.{Equation}
+use Rattle.alloc_check_rules.specs.Rules.{EquationFits, IsInOrder}
 use Rattle.alloc_check_fill.specs.Right.{HasPlace, AreRight}
 use Rattle.alloc_check_fill.proofs.Places.{filled_there}
 use Rattle.alloc_check_filled.specs.Allocated.{is_marked, filled, IsAllocated}

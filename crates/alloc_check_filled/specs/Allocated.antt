@@ -1,13 +1,13 @@
 -- What the third pass accepts: rows of equations at marked nodes, and the lists that are told from them at the others.
 use Rattle.std.specs.Prelude.{ℕ, List, length, Option, Some, None, Bool, true, false}
-use Rattle.rtl_passes_marks.specs.Function as rtl
-use Rattle.alloc_check_fill.specs.Function as ltl
-use Rattle.rtl_passes_marks.specs.Faults.{KeepsRules}
+use Rattle.rtl_language.specs.Function as rtl
+use Rattle.ltl.specs.Function as ltl
+use Rattle.rtl_passes.specs.Faults.{KeepsRules}
 use Rattle.rtl_passes_marks.specs.declared.row.NodeRow.{NodeRow}
 use Rattle.rtl_passes_marks.specs.Marks.{feeder}
 use Rattle.rtl_passes_marks.specs.Rows.{entries_at, AreRows}
-use Rattle.alloc_check_fill.specs.Equation.{Equation}
-use Rattle.alloc_check_fill.specs.Rules.{IsInOrder, IsRightAt}
+use Rattle.alloc_check_rules.specs.declared.equation.Equation.{Equation}
+use Rattle.alloc_check_rules.specs.Rules.{IsInOrder, IsRightAt}
 use Rattle.alloc_check_fill.specs.Fill.{fill}
 use Rattle.alloc_check_fill.specs.Right.{SameShape}
 

@@ -1,11 +1,11 @@
 -- What rows at marked nodes are worth.
 use Rattle.std.specs.Prelude.{◌≡◌, ℕ, ◌<◌, List, length, true}
-use Rattle.rtl_passes_marks.specs.Function as rtl
-use Rattle.alloc_check_fill.specs.Function as ltl
+use Rattle.rtl_language.specs.Function as rtl
+use Rattle.ltl.specs.Function as ltl
 use Rattle.rtl_passes_marks.specs.declared.row.NodeRow.{NodeRow}
 use Rattle.rtl_passes_marks.specs.Rows.{entries_at, AreRows}
-use Rattle.alloc_check_fill.specs.Equation.{Equation}
-use Rattle.alloc_check_fill.specs.Rules.{equations_at, IsInOrder, IsRightAt}
+use Rattle.alloc_check_rules.specs.declared.equation.Equation.{Equation}
+use Rattle.alloc_check_rules.specs.Rules.{equations_at, IsInOrder, IsRightAt}
 use Rattle.alloc_check_fill.specs.Right.{SameShape, AreRight}
 use Rattle.alloc_check_filled.specs.Allocated.{is_marked, filled, IsAllocated}
 

@@ -1,27 +1,2 @@
 pub mod Allocated
 pub mod Laws
-pub use Rattle.alloc_check_fill.specs.Right
-pub use Rattle.alloc_check_fill.specs.Equations
-pub use Rattle.alloc_check_fill.specs.Holding
-pub use Rattle.alloc_check_fill.specs.Pairs
-pub use Rattle.alloc_check_fill.specs.Rules
-pub use Rattle.alloc_check_fill.specs.Steps
-pub use Rattle.alloc_check_fill.specs.Change
-pub use Rattle.alloc_check_fill.specs.Demand
-pub use Rattle.alloc_check_fill.specs.Equation
-pub use Rattle.rtl_passes_marks.specs.RowForm
-pub use Rattle.rtl_passes_marks.specs.declared.row.NodeRow
-pub use Rattle.rtl_passes_marks.specs.Handing
-pub use Rattle.rtl_passes_marks.specs.Marks
-pub use Rattle.rtl_passes_marks.specs.Rows
-pub use Rattle.rtl_passes_marks.specs.Ranked
-pub use Rattle.rtl_passes_marks.specs.Faults
-pub use Rattle.rtl_passes_marks.specs.Frames
-pub use Rattle.rtl_passes_marks.specs.Function
-pub use Rattle.rtl_passes_marks.specs.Meaning
-pub use Rattle.rtl_passes_marks.specs.Instruction
-pub use Rattle.alloc_check_fill.specs.Function as LtlFunction
-pub use Rattle.alloc_check_fill.specs.Growth
-pub use Rattle.alloc_check_fill.specs.LtlMeaning
-pub use Rattle.alloc_check_fill.specs.Block
-pub use Rattle.alloc_check_fill.specs.Body

@@ -11,8 +11,8 @@ use Rattle.rtl_parts.specs.Fits.{RegisterFits}
 use Rattle.rtl_parts.specs.Spelling.{register_text}
 use Rattle.rtl_parts.specs.Reading.{register}
 use Rattle.rtl_parts.proofs.Forms.{register_form}
-use Rattle.alloc_check_filled.specs.RowForm.{RowsFit, rows, rows_form}
-use Rattle.alloc_check_filled.specs.Rules.{EquationFits}
+use Rattle.rtl_passes_marks.specs.RowForm.{RowsFit, rows, rows_form}
+use Rattle.alloc_check_rules.specs.Rules.{EquationFits}
 use Rattle.alloc_check_laws.specs.Text.{equation_text, cert_text}
 use Rattle.alloc_check_laws.specs.Reading.{equation}
 

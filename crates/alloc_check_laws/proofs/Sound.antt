@@ -13,16 +13,16 @@ use Rattle.lang_base.specs.Soundness.{AllFit, Accepted, AcceptedInTurn}
 use Rattle.lang_base.specs.declared.shown.Shown.TheVariants as shown
 use Rattle.lang_base.proofs.Simulation.{leads-step, keeps-matches}
 use Rattle.rtl_parts.specs.Data as rtl_data
-use Rattle.alloc_check_filled.specs.Function as rtl
-use Rattle.alloc_check_filled.specs.Frames as rtl_frames
-use Rattle.alloc_check_filled.specs.Meaning as rtl_meaning
+use Rattle.rtl_language.specs.Function as rtl
+use Rattle.rtl_language.specs.Frames as rtl_frames
+use Rattle.rtl_language.specs.Meaning as rtl_meaning
 use Rattle.machine.specs.Data.{value_at}
 use Rattle.machine.specs.Frames.{State, printed, main_number, begins}
-use Rattle.alloc_check_filled.specs.LtlFunction as ltl
-use Rattle.alloc_check_filled.specs.LtlMeaning.{takes_none, next, entry_of, slots_of, run}
-use Rattle.alloc_check_filled.specs.Growth.{grows}
-use Rattle.alloc_check_filled.specs.Rules.{equations_at}
-use Rattle.alloc_check_filled.specs.Right.{AreRight}
+use Rattle.ltl.specs.Function as ltl
+use Rattle.ltl.specs.Meaning.{takes_none, next, entry_of, slots_of, run}
+use Rattle.ltl.specs.Growth.{grows}
+use Rattle.alloc_check_rules.specs.Rules.{equations_at}
+use Rattle.alloc_check_fill.specs.Right.{AreRight}
 use Rattle.alloc_check_filled.specs.Allocated.{filled, IsAllocated}
 use Rattle.alloc_check_filled.proofs.Right.{right_from}
 use Rattle.alloc_check_laws.specs.Related.{IsSound, Pair, Related}

@@ -19,11 +19,11 @@ use Rattle.rtl_parts.specs.Acts as rtl_acts
 use Rattle.rtl_parts.proofs.Outputs as rtl_outputs
 use Rattle.rtl_parts.specs.declared.act.Act.{Act}
 use Rattle.rtl_parts.specs.declared.test.Test.{Test}
-use Rattle.alloc_check_filled.specs.Instruction.{Instruction}
-use Rattle.alloc_check_filled.specs.Instruction.TheVariants.{Do, Call, Branch, Return}
-use Rattle.alloc_check_filled.specs.Function as rtl
-use Rattle.alloc_check_filled.specs.Frames as rtl_frames
-use Rattle.alloc_check_filled.specs.Meaning as rtl_meaning
+use Rattle.rtl_language.specs.declared.instruction.Instruction.{Instruction}
+use Rattle.rtl_language.specs.declared.instruction.Instruction.TheVariants.{Do, Call, Branch, Return}
+use Rattle.rtl_language.specs.Function as rtl
+use Rattle.rtl_language.specs.Frames as rtl_frames
+use Rattle.rtl_language.specs.Meaning as rtl_meaning
 use Rattle.machine.specs.declared.act.Act as machine_act
 use Rattle.machine.specs.declared.test.Test as machine_test
 use Rattle.machine.specs.Data.{Data, value_at, put_at, all_moved}
@@ -31,21 +31,21 @@ use Rattle.machine.specs.Acts.{holds}
 use Rattle.machine.specs.Frames.{Frame, State, goes_to, returned, after_call, restored, with_result, resumed, comes_back}
 use Rattle.machine.specs.Calls.{values_of, with_arguments, waiting, begun, calls}
 use Rattle.machine.proofs.Outputs.{output-all_moved, output-with_result}
-use Rattle.alloc_check_filled.specs.Block.{Block}
-use Rattle.alloc_check_filled.specs.Body.{Body}
-use Rattle.alloc_check_filled.specs.Body.TheVariants as body
-use Rattle.alloc_check_filled.specs.LtlFunction as ltl
-use Rattle.alloc_check_filled.specs.LtlMeaning.{does_any, branches, callee_of, body_step, block_step, function_step, next}
-use Rattle.alloc_check_filled.specs.Equation.{Equation}
-use Rattle.alloc_check_filled.specs.Change.{Change}
-use Rattle.alloc_check_filled.specs.Change.TheVariants.{Nothing, Defines, Drops, Copies}
-use Rattle.alloc_check_filled.specs.Demand.{Demand}
-use Rattle.alloc_check_filled.specs.Demand.TheVariants.{Met, Refused, Needs}
-use Rattle.alloc_check_filled.specs.Equations.{back_equation, through, demand}
-use Rattle.alloc_check_filled.specs.Pairs.{result_change, act_change, same_test, same_presence, change_of, in_register, equations_of, act_uses, arguments_used, uses}
-use Rattle.alloc_check_filled.specs.Rules.{equations_at, IsGiven, IsAnswered, LeadsTo, IsCarried, StandsFor, IsRightAs}
-use Rattle.alloc_check_filled.specs.Holding.{Covers, AllCover, Holds, DemandHolds, HasFrame}
-use Rattle.alloc_check_filled.specs.Steps.{SameLocations, Changed, IsBack}
+use Rattle.ltl.specs.declared.block.Block.{Block}
+use Rattle.ltl.specs.declared.block.Body.{Body}
+use Rattle.ltl.specs.declared.block.Body.TheVariants as body
+use Rattle.ltl.specs.Function as ltl
+use Rattle.ltl.specs.Meaning.{does_any, branches, callee_of, body_step, block_step, function_step, next}
+use Rattle.alloc_check_rules.specs.declared.equation.Equation.{Equation}
+use Rattle.alloc_check_rules.specs.declared.change.Change.{Change}
+use Rattle.alloc_check_rules.specs.declared.change.Change.TheVariants.{Nothing, Defines, Drops, Copies}
+use Rattle.alloc_check_rules.specs.declared.demand.Demand.{Demand}
+use Rattle.alloc_check_rules.specs.declared.demand.Demand.TheVariants.{Met, Refused, Needs}
+use Rattle.alloc_check_rules.specs.Equations.{back_equation, through, demand}
+use Rattle.alloc_check_rules.specs.Pairs.{result_change, act_change, same_test, same_presence, change_of, in_register, equations_of, act_uses, arguments_used, uses}
+use Rattle.alloc_check_rules.specs.Rules.{equations_at, IsGiven, IsAnswered, LeadsTo, IsCarried, StandsFor, IsRightAs}
+use Rattle.alloc_check_rules.specs.Holding.{Covers, AllCover, Holds, DemandHolds, HasFrame}
+use Rattle.alloc_check_rules.specs.Steps.{SameLocations, Changed, IsBack}
 use Rattle.alloc_check_laws.specs.Related.{Agrees, IsSound, Pair, FrameRelated, FramesRelated, Related}
 use Rattle.alloc_check_rules.proofs.Locations.{frame_put, globals_put, frame_moves, globals_moves, back_fits}
 use Rattle.alloc_check_rules.proofs.Changes.{through_holds, over_call_holds, result_changed, moves_hold}

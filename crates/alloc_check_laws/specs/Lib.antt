@@ -2,13 +2,3 @@ pub mod Text
 pub mod Reading
 pub mod Related
 pub mod Theorem
-pub use Rattle.alloc_check_filled.specs.Allocated
-pub use Rattle.alloc_check_filled.specs.Handing
-pub use Rattle.alloc_check_filled.specs.Marks
-pub use Rattle.alloc_check_filled.specs.Rows
-pub use Rattle.alloc_check_filled.specs.NodeRow
-pub use Rattle.alloc_check_filled.specs.Ranked
-pub use Rattle.alloc_check_filled.specs.RowForm
-pub use Rattle.alloc_check_filled.specs.Faults
-pub use Rattle.alloc_check_filled.specs.Function
-pub use Rattle.alloc_check_filled.specs.Instruction

@@ -3,7 +3,7 @@ use Rattle.std.specs.Prelude.{ℕ}
 use Rattle.lang_base.specs.Reading.{Reading, made, both}
 use Rattle.locations.specs.Reading.{location}
 use Rattle.rtl_parts.specs.Reading.{register}
-use Rattle.alloc_check_filled.specs.Equation.{Equation}
+use Rattle.alloc_check_rules.specs.declared.equation.Equation.{Equation}
 
 -- one of so many registers, and a location among so many slots
 unfoldable pub equation : ℕ → ℕ → Reading Equation

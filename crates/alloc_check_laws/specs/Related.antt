@@ -3,15 +3,15 @@ use Rattle.std.specs.Prelude.{◌≡◌, ℕ, List, [], ◌∷◌, length, Optio
 use Rattle.lang_base.specs.declared.program.Named.{Named}
 use Rattle.rtl_parts.specs.Data as rtl_data
 use Rattle.rtl_parts.specs.Acts as rtl_acts
-use Rattle.alloc_check_filled.specs.Function as rtl
-use Rattle.alloc_check_filled.specs.Frames as rtl_frames
+use Rattle.rtl_language.specs.Function as rtl
+use Rattle.rtl_language.specs.Frames as rtl_frames
 use Rattle.machine.specs.Data.{Data, all_moved}
 use Rattle.machine.specs.Frames.{Frame, State, after_call, with_result}
-use Rattle.alloc_check_filled.specs.LtlFunction as ltl
-use Rattle.alloc_check_filled.specs.Equation.{Equation}
-use Rattle.alloc_check_filled.specs.Rules.{equations_at}
-use Rattle.alloc_check_filled.specs.Right.{AreRight}
-use Rattle.alloc_check_filled.specs.Holding.{Holds, HasFrame}
+use Rattle.ltl.specs.Function as ltl
+use Rattle.alloc_check_rules.specs.declared.equation.Equation.{Equation}
+use Rattle.alloc_check_rules.specs.Rules.{equations_at}
+use Rattle.alloc_check_fill.specs.Right.{AreRight}
+use Rattle.alloc_check_rules.specs.Holding.{Holds, HasFrame}
 
 -- the equations hold, and globals and output are the same
 pub record Agrees (slots : ℕ) (es : List Equation) (d : rtl_data.Data) (e : Data) : Type 0 where

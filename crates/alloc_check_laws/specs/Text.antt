@@ -2,12 +2,12 @@
 use Rattle.std.specs.Prelude.{ℕ, ◌≤◌, ◌^◌, List, ◌++◌, length}
 use Rattle.locations.specs.Spelling.{location_text}
 use Rattle.rtl_parts.specs.Spelling.{register_text}
-use Rattle.alloc_check_filled.specs.Function as rtl
-use Rattle.alloc_check_filled.specs.LtlFunction as ltl
-use Rattle.alloc_check_filled.specs.NodeRow.{NodeRow}
-use Rattle.alloc_check_filled.specs.RowForm.{RowsFit, rows_text}
-use Rattle.alloc_check_filled.specs.Equation.{Equation}
-use Rattle.alloc_check_filled.specs.Rules.{EquationFits}
+use Rattle.rtl_language.specs.Function as rtl
+use Rattle.ltl.specs.Function as ltl
+use Rattle.rtl_passes_marks.specs.declared.row.NodeRow.{NodeRow}
+use Rattle.rtl_passes_marks.specs.RowForm.{RowsFit, rows_text}
+use Rattle.alloc_check_rules.specs.declared.equation.Equation.{Equation}
+use Rattle.alloc_check_rules.specs.Rules.{EquationFits}
 
 -- the register, then the location
 abbrev pub equation_text : Equation → List ℕ

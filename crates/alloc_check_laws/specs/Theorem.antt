@@ -2,11 +2,11 @@
 use Rattle.lang_base.specs.Keeps.{Keeps}
 use Rattle.lang_base.specs.declared.program.Program.{Program}
 use Rattle.lang_base.specs.Soundness.{AllFit, Accepted}
-use Rattle.alloc_check_filled.specs.Function as rtl
-use Rattle.alloc_check_filled.specs.Meaning as rtl_meaning
-use Rattle.alloc_check_filled.specs.LtlFunction.{FunctionData, IsFunction}
-use Rattle.alloc_check_filled.specs.LtlMeaning.{run}
-use Rattle.alloc_check_filled.specs.Right.{AreRight}
+use Rattle.rtl_language.specs.Function as rtl
+use Rattle.rtl_language.specs.Meaning as rtl_meaning
+use Rattle.ltl.specs.Function.{FunctionData, IsFunction}
+use Rattle.ltl.specs.Meaning.{run}
+use Rattle.alloc_check_fill.specs.Right.{AreRight}
 use Rattle.alloc_check_filled.specs.Allocated.{IsAllocated}
 
 -- with any lists of equations that are right at each node

@@ -7,10 +7,6 @@ mod law;
 mod reading;
 mod writing;
 
-pub use alloc_check_filled::{
-    Entries, Fault, Function, Instruction, NodeRow, Said, are_rows, empty_lists, entries_of,
-    feeders_of, is_fed, read_rows, take, write_rows,
-};
 pub use law::{allocated_keeps, right_keep};
 pub use reading::read_equation;
 pub use writing::push_equation;

@@ -4,7 +4,7 @@ ghost use Rattle.lang_base.specs.Reading.{IsRead};
 ghost use Rattle.locations.specs.Reading.{location};
 ghost use Rattle.alloc_check_laws.specs.Reading.{equation};
 
-use alloc_check_filled::Equation;
+use alloc_check_rules::Equation;
 use lang_base::{FormError, read_byte, read_u16_below};
 use locations::{Location, read_register as read_machine_register};
 use rtl_parts::read_register;

@@ -3,7 +3,7 @@
 ghost use Rattle.lang_base.specs.Texts.{Appends};
 ghost use Rattle.alloc_check_laws.specs.Text.{equation_text};
 
-use alloc_check_filled::Equation;
+use alloc_check_rules::Equation;
 use lang_base::{NoMemory, push_u16};
 use lang_parts::WriteOne;
 use locations::Location;

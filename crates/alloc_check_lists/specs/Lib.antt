@@ -1,9 +1,1 @@
 pub mod Ranks
-pub use Rattle.alloc_check_fill.specs.Fill
-pub use Rattle.alloc_check_fill.specs.Needed
-pub use Rattle.alloc_check_fill.specs.Right
-pub use Rattle.alloc_check_fill.specs.Sets
-pub use Rattle.alloc_check_fill.specs.Pairs
-pub use Rattle.alloc_check_fill.specs.Rules
-pub use Rattle.alloc_check_fill.specs.Change
-pub use Rattle.alloc_check_fill.specs.Equation

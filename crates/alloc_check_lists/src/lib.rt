@@ -6,7 +6,6 @@ mod among;
 mod entry;
 mod order;
 
-pub use alloc_check_fill::{Equation, needed_before, rank, tidy};
 pub use among::are_among;
 pub use entry::hold_at_entry;
 pub use order::is_in_order;

@@ -12,9 +12,9 @@ use Rattle.rtl_parts.specs.declared.arguments.Arguments.TheVariants.{One, Two}
 use Rattle.rtl_parts.specs.declared.act.Act.{Act}
 use Rattle.rtl_parts.specs.declared.act.Act.TheVariants.{Nop, Constant, Move, Operate, Load, Store, Put}
 use Rattle.rtl_parts.specs.Fits.{RegisterFits, ArgumentsFit, ActFits}
-use Rattle.alloc_check_rules.specs.Instruction.{Instruction}
-use Rattle.alloc_check_rules.specs.Instruction.TheVariants.{Do, Call, Branch, Return}
-use Rattle.alloc_check_rules.specs.RtlLanguageFunction.{FunctionData, IsFunction, InstructionFits}
+use Rattle.rtl_language.specs.declared.instruction.Instruction.{Instruction}
+use Rattle.rtl_language.specs.declared.instruction.Instruction.TheVariants.{Do, Call, Branch, Return}
+use Rattle.rtl_language.specs.Function.{FunctionData, IsFunction, InstructionFits}
 use Rattle.alloc_check_live.specs.Liveness.{named, used_by_act, used_by, used_of, onward_of, LivesFor, IsLive}
 use Rattle.alloc_check_live.specs.Walks.{is_that}
 use Rattle.alloc_check_live.proofs.Tables.{none_of}

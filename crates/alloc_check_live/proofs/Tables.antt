@@ -5,7 +5,7 @@ use Rattle.std.proofs.lemmas.Bool.{cases_eq, cases_lt}
 use Rattle.std.proofs.lemmas.List.{length-set, length-replicate, get_or-set_same, get_or-set_other, set_past}
 use Rattle.std.proofs.lemmas.List.Elements.{Contains-append_left, Contains-push, Contains-push_cases}
 use Rattle.std.proofs.lemmas.Option.{slice_get_past}
-use Rattle.alloc_check_rules.specs.Instruction.{Instruction}
+use Rattle.rtl_language.specs.declared.instruction.Instruction.{Instruction}
 use Rattle.alloc_check_live.specs.Lists.{registers_at}
 use Rattle.alloc_check_live.specs.Tables.{added, added_to_each, IsIndex, AreThose}
 

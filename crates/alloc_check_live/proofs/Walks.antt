@@ -5,8 +5,8 @@ use Rattle.std.specs.List.{filter}
 use Rattle.std.proofs.lemmas.Bool.{cases_eq, cases_Bool, not_from_false, cond-true, cond-false}
 use Rattle.std.proofs.lemmas.List.{length-replicate}
 use Rattle.std.proofs.lemmas.List.Elements.{Contains-append_left, Contains-append_right, Contains-append_cases, Contains-push, Contains-push_cases, All-contains, All-filter, All-contains_itself, filter_passes}
-use Rattle.alloc_check_rules.specs.Instruction.{Instruction}
-use Rattle.alloc_check_rules.specs.RtlLanguageFunction.{FunctionData, IsFunction}
+use Rattle.rtl_language.specs.declared.instruction.Instruction.{Instruction}
+use Rattle.rtl_language.specs.Function.{FunctionData, IsFunction}
 use Rattle.alloc_check_live.specs.Liveness.{used_of, defined_of, onward_of, LivesFor, IsLive}
 use Rattle.alloc_check_live.specs.Lists.{registers_at, RisesFrom, AreLive, AreLiveBelow}
 use Rattle.alloc_check_live.specs.Tables.{added, IsIndex, AreThose}

@@ -2,13 +2,3 @@ pub mod Liveness
 pub mod Lists
 pub mod Tables
 pub mod Walks
-pub use Rattle.alloc_check_rules.specs.Equations
-pub use Rattle.alloc_check_rules.specs.Pairs
-pub use Rattle.alloc_check_rules.specs.Rules
-pub use Rattle.alloc_check_rules.specs.declared.change.Change
-pub use Rattle.alloc_check_rules.specs.declared.demand.Demand
-pub use Rattle.alloc_check_rules.specs.declared.equation.Equation
-pub use Rattle.alloc_check_rules.specs.ListForm
-pub use Rattle.alloc_check_rules.specs.RtlLanguageFunction
-pub use Rattle.alloc_check_rules.specs.Meaning
-pub use Rattle.alloc_check_rules.specs.Instruction

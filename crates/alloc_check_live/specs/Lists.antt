@@ -1,6 +1,6 @@
 -- Lists of registers, one for each node.
 use Rattle.std.specs.Prelude.{◌≡◌, ℕ, suc, ◌<◌, ◌≤◌, ◌↔◌, List, [], ◌∷◌, length, slice_index_or, Contains}
-use Rattle.alloc_check_rules.specs.Instruction.{Instruction}
+use Rattle.rtl_language.specs.declared.instruction.Instruction.{Instruction}
 use Rattle.alloc_check_live.specs.Liveness.{IsLive}
 
 -- the list at a node

@@ -5,8 +5,8 @@ use Rattle.rtl_parts.specs.declared.arguments.Arguments.{Arguments}
 use Rattle.rtl_parts.specs.declared.arguments.Arguments.TheVariants.{One, Two}
 use Rattle.rtl_parts.specs.declared.act.Act.{Act}
 use Rattle.rtl_parts.specs.declared.act.Act.TheVariants.{Nop, Constant, Move, Operate, Load, Store, Put}
-use Rattle.alloc_check_rules.specs.Instruction.{Instruction}
-use Rattle.alloc_check_rules.specs.Instruction.TheVariants.{Do, Call, Branch, Return}
+use Rattle.rtl_language.specs.declared.instruction.Instruction.{Instruction}
+use Rattle.rtl_language.specs.declared.instruction.Instruction.TheVariants.{Do, Call, Branch, Return}
 use Rattle.alloc_check_rules.specs.Pairs.{successors_of}
 
 -- ---- the registers that are used

@@ -1,6 +1,6 @@
 -- Tables of lists to which numbers are added, and the table of the nodes that name a number.
 use Rattle.std.specs.Prelude.{◌≡◌, ℕ, ◌<◌, ◌↔◌, List, [], ◌∷◌, ◌++◌, length, Option, slice_get, slice_set, Contains}
-use Rattle.alloc_check_rules.specs.Instruction.{Instruction}
+use Rattle.rtl_language.specs.declared.instruction.Instruction.{Instruction}
 use Rattle.alloc_check_live.specs.Lists.{registers_at}
 
 -- one more number at the end of the list at a place, if the place is there

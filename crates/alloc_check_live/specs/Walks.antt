@@ -1,7 +1,7 @@
 -- A walk backwards from the uses of a register: a step of it.
 use Rattle.std.specs.Prelude.{◌≡◌, ℕ, List, [], ◌∷◌, ◌++◌, Option, Some, None, Bool, true, false, nat_eq, not, slice_get, Result, OnOk}
 use Rattle.std.specs.List.{filter}
-use Rattle.alloc_check_rules.specs.Instruction.{Instruction}
+use Rattle.rtl_language.specs.declared.instruction.Instruction.{Instruction}
 use Rattle.alloc_check_live.specs.Liveness.{defined_of}
 use Rattle.alloc_check_live.specs.Lists.{registers_at}
 use Rattle.alloc_check_live.specs.Tables.{added}

@@ -6,7 +6,7 @@ ghost use Rattle.alloc_check_live.specs.Tables.{added, added_to_each, IsIndex};
 
 use crate::numbers::Numbers;
 use crate::uses::{push_successors, push_used};
-use alloc_check_rules::Instruction;
+use rtl_language::Instruction;
 use lang_base::NoMemory;
 use std::alloc::Global;
 

@@ -8,6 +8,5 @@ mod numbers;
 mod uses;
 mod walk;
 
-pub use alloc_check_rules::{Equation, Function, Instruction, Rtl};
 pub use numbers::Numbers;
 pub use walk::live_registers;

@@ -5,7 +5,7 @@ ghost use Rattle.alloc_check_rules.specs.Pairs.{successors_of};
 ghost use Rattle.alloc_check_live.specs.Liveness.{named, used_by_act, used_by, defined_by_act, defined_by};
 ghost use Rattle.alloc_check_live.specs.Walks.{defines};
 
-use alloc_check_rules::Instruction;
+use rtl_language::Instruction;
 use lang_base::NoMemory;
 use rtl_parts::{Act, Arguments, Register};
 

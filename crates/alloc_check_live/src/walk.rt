@@ -9,7 +9,7 @@ ghost use Rattle.alloc_check_live.specs.Walks.{kept, LeavesEntered, EntersNew};
 use crate::index::{add, empty_lists, leading, users};
 use crate::numbers::{Numbers, ends_with, numbers_at};
 use crate::uses::defines;
-use alloc_check_rules::{Function, Instruction};
+use rtl_language::{Function, Instruction};
 use lang_base::NoMemory;
 use rtl_parts::Register;
 use std::alloc::Global;

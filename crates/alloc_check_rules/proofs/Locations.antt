@@ -3,12 +3,12 @@ use Rattle.std.proofs.Common.{◌≡◌, ◌≢◌, ℕ, List, [], ◌∷◌, le
 use Rattle.std.specs.List.{AllByRecursion}
 use Rattle.std.proofs.lemmas.Bool.{eqb-true, eq-eqb, cases_lt}
 use Rattle.std.proofs.lemmas.List.{length-set, get_or-set_same, get_or-set_other, get_or_past}
-use Rattle.ltl.specs.Location.{Location}
-use Rattle.ltl.specs.Location.TheVariants.{InRegister, InSlot}
-use Rattle.ltl.specs.Move.{Move}
-use Rattle.ltl.specs.LocationsFits.{LocationFits, MoveFits}
-use Rattle.ltl.specs.LocationsReading.{same_location}
-use Rattle.ltl.specs.Data.{Data, value_at, put_at, moved, all_moved}
+use Rattle.locations.specs.declared.location.Location.{Location}
+use Rattle.locations.specs.declared.location.Location.TheVariants.{InRegister, InSlot}
+use Rattle.locations.specs.declared.location.Move.{Move}
+use Rattle.locations.specs.Fits.{LocationFits, MoveFits}
+use Rattle.locations.specs.Reading.{same_location}
+use Rattle.machine.specs.Data.{Data, value_at, put_at, moved, all_moved}
 use Rattle.alloc_check_rules.specs.Equations.{back_move, back}
 use Rattle.alloc_check_rules.specs.Holding.{Covers, HasFrame}
 

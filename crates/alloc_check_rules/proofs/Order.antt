@@ -6,11 +6,11 @@ use Rattle.std.specs.declared.cmp.Ordering.TheVariants.{Less, Equal, Greater}
 use Rattle.std.specs.Ordering.{nat_cmp, ordering_then}
 use Rattle.std.specs.Cmp.Lexicographic.{slice_cmp}
 use Rattle.std.proofs.lemmas.Cmp.{ranked, by_ranked}
-use Rattle.ltl.specs.Location.{Location}
-use Rattle.ltl.specs.Location.TheVariants.{InRegister, InSlot}
-use Rattle.ltl.specs.LocationsFits.{LocationFits}
-use Rattle.ltl.specs.LocationsSpelling.{location_text}
-use Rattle.rtl_passes.specs.RtlPartsSpelling.{register_text}
+use Rattle.locations.specs.declared.location.Location.{Location}
+use Rattle.locations.specs.declared.location.Location.TheVariants.{InRegister, InSlot}
+use Rattle.locations.specs.Fits.{LocationFits}
+use Rattle.locations.specs.Spelling.{location_text}
+use Rattle.rtl_parts.specs.Spelling.{register_text}
 use Rattle.alloc_check_rules.specs.declared.equation.Equation.{Equation}
 use Rattle.alloc_check_rules.specs.Rules.{EquationFits, IsLower, IsBefore}
 

@@ -1,9 +1,9 @@
 -- Equations between registers of the input and locations of the output, carried backward (Rideau and Leroy 2010).
 use Rattle.std.specs.Prelude.{ℕ, List, [], ◌∷◌, Bool, false, nat_eq, nat_lt, if◌then◌else◌}
-use Rattle.ltl.specs.Location.{Location}
-use Rattle.ltl.specs.Location.TheVariants.{InRegister, InSlot}
-use Rattle.ltl.specs.Move.{Move}
-use Rattle.ltl.specs.LocationsReading.{same_location}
+use Rattle.locations.specs.declared.location.Location.{Location}
+use Rattle.locations.specs.declared.location.Location.TheVariants.{InRegister, InSlot}
+use Rattle.locations.specs.declared.location.Move.{Move}
+use Rattle.locations.specs.Reading.{same_location}
 use Rattle.ltl.specs.declared.block.Body.{Body}
 use Rattle.ltl.specs.declared.block.Body.TheVariants.{Call}
 use Rattle.ltl.specs.Function.{after_of}

@@ -1,13 +1,13 @@
 -- What the pass accepts: an output that does with locations what the input does with registers, and for each node the
 -- equations that hold there (Rideau and Leroy 2010).
 use Rattle.std.specs.Prelude.{◌≡◌, ◌≢◌, ◌⊎◌, ℕ, ◌<◌, ◌^◌, List, [], ◌∷◌, length, Option, Some, None, All, Contains, slice_get, slice_index_or}
-use Rattle.ltl.specs.Location.{Location}
-use Rattle.ltl.specs.Location.TheVariants.{InRegister, InSlot}
-use Rattle.ltl.specs.Move.{Move}
-use Rattle.ltl.specs.LocationsFits.{LocationFits}
-use Rattle.rtl_passes.specs.Fits.{RegisterFits}
-use Rattle.rtl_passes.specs.Instruction.{Instruction}
-use Rattle.rtl_passes.specs.Function as rtl
+use Rattle.locations.specs.declared.location.Location.{Location}
+use Rattle.locations.specs.declared.location.Location.TheVariants.{InRegister, InSlot}
+use Rattle.locations.specs.declared.location.Move.{Move}
+use Rattle.locations.specs.Fits.{LocationFits}
+use Rattle.rtl_parts.specs.Fits.{RegisterFits}
+use Rattle.rtl_language.specs.declared.instruction.Instruction.{Instruction}
+use Rattle.rtl_language.specs.Function as rtl
 use Rattle.ltl.specs.declared.block.Block.{Block}
 use Rattle.ltl.specs.Function as ltl
 use Rattle.rtl_passes.specs.Faults.{KeepsRules}

@@ -1,5 +1,5 @@
-use ltl::Location;
-use rtl_passes::Register;
+use locations::Location;
+use rtl_parts::Register;
 
 /// What an instruction and the body that stands for it define.
 #[derive(Clone, Copy)]

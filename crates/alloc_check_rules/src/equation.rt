@@ -1,5 +1,5 @@
-use ltl::Location;
-use rtl_passes::Register;
+use locations::Location;
+use rtl_parts::Register;
 
 /// At a node the location holds the register's word, where the register has one.
 #[derive(Clone, Copy)]

@@ -16,5 +16,3 @@ pub use law::{
     acts_agree, calls_keep, demands_suffice, entries_hold, order_is_of_bytes, origins_hold,
     tests_agree,
 };
-pub use ltl::{Block, Body};
-pub use rtl_passes::{Act, Arguments, Function, Instruction, Register, Rtl, Test};

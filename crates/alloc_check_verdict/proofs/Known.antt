@@ -6,22 +6,22 @@ use Rattle.std.proofs.lemmas.Bool.{cases_eq}
 use Rattle.std.proofs.lemmas.List.{length-set, get_or-set_same, get_or-set_other, get_or-replicate, length-replicate}
 use Rattle.std.proofs.lemmas.List.Elements.{recursion_from_All}
 use Rattle.std.proofs.lemmas.Option.{slice_get_within, same_Some}
-use Rattle.alloc_check_laws.specs.Instruction.{Instruction}
-use Rattle.alloc_check_laws.specs.Function as rtl
+use Rattle.rtl_language.specs.declared.instruction.Instruction.{Instruction}
+use Rattle.rtl_language.specs.Function as rtl
 use Rattle.ltl.specs.Function as ltl
-use Rattle.alloc_check_laws.specs.NodeRow.{NodeRow}
-use Rattle.alloc_check_laws.specs.Marks.{feeder, AreFeeders, IsMarked}
-use Rattle.alloc_check_laws.specs.Rows.{entries_at}
-use Rattle.alloc_check_laws.specs.Handing.{is_fed_by, spread_on}
-use Rattle.alloc_check_laws.proofs.Handings.{spread_at}
-use Rattle.alloc_check_lists.specs.Equation.{Equation}
-use Rattle.alloc_check_lists.specs.Pairs.{successors_of}
-use Rattle.alloc_check_lists.specs.Rules.{EquationFits, equations_at, IsInOrder}
-use Rattle.alloc_check_lists.specs.Sets.{SameSet}
-use Rattle.alloc_check_lists.proofs.Fixed.{row_is}
-use Rattle.alloc_check_laws.specs.Allocated.{is_none, is_marked, filled, HasForm}
-use Rattle.alloc_check_laws.proofs.Marks.{fed_by}
-use Rattle.alloc_check_laws.proofs.Right.{at_rows}
+use Rattle.rtl_passes_marks.specs.declared.row.NodeRow.{NodeRow}
+use Rattle.rtl_passes_marks.specs.Marks.{feeder, AreFeeders, IsMarked}
+use Rattle.rtl_passes_marks.specs.Rows.{entries_at}
+use Rattle.rtl_passes_marks.specs.Handing.{is_fed_by, spread_on}
+use Rattle.rtl_passes_marks.proofs.Handings.{spread_at}
+use Rattle.alloc_check_rules.specs.declared.equation.Equation.{Equation}
+use Rattle.alloc_check_rules.specs.Pairs.{successors_of}
+use Rattle.alloc_check_rules.specs.Rules.{EquationFits, equations_at, IsInOrder}
+use Rattle.alloc_check_fill.specs.Sets.{SameSet}
+use Rattle.alloc_check_fill.proofs.Fixed.{row_is}
+use Rattle.alloc_check_filled.specs.Allocated.{is_none, is_marked, filled, HasForm}
+use Rattle.alloc_check_filled.proofs.Marks.{fed_by}
+use Rattle.alloc_check_filled.proofs.Right.{at_rows}
 use Rattle.alloc_check_lists.specs.Ranks.{RiseFrom}
 use Rattle.alloc_check_verdict.specs.Walk.{stands_at, AreTaken, IsSaid, IsKnownFrom}
 use Rattle.alloc_check_lists.proofs.Ranks.{rise_ranks}

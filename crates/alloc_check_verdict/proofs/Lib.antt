@@ -4,4 +4,3 @@ pub mod Turns
 pub mod Known
 pub mod Lowest
 pub mod Passed
-pub use Rattle.alloc_check_laws.proofs.Kept

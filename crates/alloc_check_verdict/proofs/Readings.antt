@@ -1,12 +1,12 @@
 -- What is read at a node tells of the node.
 use Rattle.std.proofs.Common.{◌≡◌, ℕ, List, Some, subst}
 use Rattle.std.specs.Prelude.{slice_get}
-use Rattle.alloc_check_laws.specs.Instruction.{Instruction}
-use Rattle.alloc_check_laws.specs.Function as rtl
+use Rattle.rtl_language.specs.declared.instruction.Instruction.{Instruction}
+use Rattle.rtl_language.specs.Function as rtl
 use Rattle.ltl.specs.declared.block.Block.{Block}
 use Rattle.ltl.specs.Function as ltl
-use Rattle.alloc_check_lists.specs.Equation.{Equation}
-use Rattle.alloc_check_lists.specs.Rules.{IsRightAs, IsRightAt}
+use Rattle.alloc_check_rules.specs.declared.equation.Equation.{Equation}
+use Rattle.alloc_check_rules.specs.Rules.{IsRightAs, IsRightAt}
 
 module _ (input : rtl.FunctionData) (output : ltl.FunctionData) (lists : List (List Equation)) (n : ℕ) (i : Instruction) (b : Block) (instructions : List Instruction) (blocks : List Block) (nodes : instructions ≡ input.nodes) (same : blocks ≡ output.blocks) (is_input : slice_get instructions n ≡ Some i) (is_output : slice_get blocks n ≡ Some b) where
   pub right_read : IsRightAs input output lists n i b → IsRightAt input output lists n

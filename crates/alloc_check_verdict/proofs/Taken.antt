@@ -4,13 +4,13 @@ use Rattle.std.specs.Prelude.{◌↔◌, Contains, slice_get, slice_set}
 use Rattle.std.specs.List.{flat_map}
 use Rattle.std.proofs.lemmas.List.{length-set, get_or-set_other, append-nil}
 use Rattle.std.proofs.lemmas.List.Elements.{Contains-append_left, Contains-append_right, Contains-append_cases}
-use Rattle.alloc_check_laws.specs.Handing.{is_fed_by, standing, left_by}
-use Rattle.alloc_check_laws.proofs.Handings.{left_count}
-use Rattle.alloc_check_lists.specs.Equation.{Equation}
-use Rattle.alloc_check_lists.specs.Rules.{equations_at}
-use Rattle.alloc_check_lists.specs.Sets.{SameSet}
-use Rattle.alloc_check_lists.proofs.Members.{first_of, later_of}
-use Rattle.alloc_check_lists.proofs.Blocks.{same_of}
+use Rattle.rtl_passes_marks.specs.Handing.{is_fed_by, standing, left_by}
+use Rattle.rtl_passes_marks.proofs.Handings.{left_count}
+use Rattle.alloc_check_rules.specs.declared.equation.Equation.{Equation}
+use Rattle.alloc_check_rules.specs.Rules.{equations_at}
+use Rattle.alloc_check_fill.specs.Sets.{SameSet}
+use Rattle.alloc_check_fill.proofs.Members.{first_of, later_of}
+use Rattle.alloc_check_fill.proofs.Blocks.{same_of}
 use Rattle.alloc_check_verdict.specs.Walk.{stands_at, AreTaken}
 
 left_keeps : (o : Option (Option ℕ)) (s k : ℕ) (lists : List (List Equation)) → (k ≡ s → is_fed_by o ≡ false) → equations_at (left_by o s lists) k ≡ equations_at lists k

@@ -4,26 +4,26 @@ use Rattle.std.specs.Prelude.{◌↔◌, All, Contains, slice_get, IsTrue}
 use Rattle.std.specs.List.{AllByRecursion}
 use Rattle.std.proofs.lemmas.List.Elements.{All-contains, recursion_from_All}
 use Rattle.std.proofs.lemmas.Option.{same_Some}
-use Rattle.alloc_check_laws.specs.Instruction.{Instruction}
-use Rattle.alloc_check_laws.specs.Function as rtl
+use Rattle.rtl_language.specs.declared.instruction.Instruction.{Instruction}
+use Rattle.rtl_language.specs.Function as rtl
 use Rattle.ltl.specs.declared.block.Block.{Block}
 use Rattle.ltl.specs.Function as ltl
-use Rattle.alloc_check_laws.specs.NodeRow.{NodeRow}
-use Rattle.alloc_check_laws.specs.Marks.{AreFeeders}
-use Rattle.alloc_check_laws.specs.Rows.{entries_at}
-use Rattle.alloc_check_lists.specs.Equation.{Equation}
-use Rattle.alloc_check_lists.specs.Change.{Change}
-use Rattle.alloc_check_lists.specs.Pairs.{change_of, successors_of}
-use Rattle.alloc_check_lists.specs.Rules.{equations_at, StandsFor, HoldsAtEntry, IsRightAs, IsRightAt}
-use Rattle.alloc_check_lists.specs.Fill.{needed, behind}
-use Rattle.alloc_check_lists.specs.Needed.{Keeps}
-use Rattle.alloc_check_lists.specs.Sets.{SameSet}
-use Rattle.alloc_check_lists.proofs.Members.{all_members}
-use Rattle.alloc_check_lists.proofs.Carried.{needed_same}
-use Rattle.alloc_check_lists.proofs.Blocks.{same_of, same_through, joined_sets, keeps_same, stands_keep, needs_there, keeps_stand}
-use Rattle.alloc_check_lists.proofs.Fixed.{needed_is}
-use Rattle.alloc_check_laws.specs.Allocated.{is_marked, filled}
-use Rattle.alloc_check_laws.proofs.Marks.{fed_by, entry_marked, within}
+use Rattle.rtl_passes_marks.specs.declared.row.NodeRow.{NodeRow}
+use Rattle.rtl_passes_marks.specs.Marks.{AreFeeders}
+use Rattle.rtl_passes_marks.specs.Rows.{entries_at}
+use Rattle.alloc_check_rules.specs.declared.equation.Equation.{Equation}
+use Rattle.alloc_check_rules.specs.declared.change.Change.{Change}
+use Rattle.alloc_check_rules.specs.Pairs.{change_of, successors_of}
+use Rattle.alloc_check_rules.specs.Rules.{equations_at, StandsFor, HoldsAtEntry, IsRightAs, IsRightAt}
+use Rattle.alloc_check_fill.specs.Fill.{needed, behind}
+use Rattle.alloc_check_fill.specs.Needed.{Keeps}
+use Rattle.alloc_check_fill.specs.Sets.{SameSet}
+use Rattle.alloc_check_fill.proofs.Members.{all_members}
+use Rattle.alloc_check_fill.proofs.Carried.{needed_same}
+use Rattle.alloc_check_fill.proofs.Blocks.{same_of, same_through, joined_sets, keeps_same, stands_keep, needs_there, keeps_stand}
+use Rattle.alloc_check_fill.proofs.Fixed.{needed_is}
+use Rattle.alloc_check_filled.specs.Allocated.{is_marked, filled}
+use Rattle.alloc_check_filled.proofs.Marks.{fed_by, entry_marked, within}
 use Rattle.alloc_check_verdict.specs.Right.{BeginsRight}
 use Rattle.alloc_check_verdict.specs.Walk.{stands_at, IsSaid, IsKnownFrom}
 use Rattle.alloc_check_verdict.proofs.Known.{stands_marked, stands_fed}

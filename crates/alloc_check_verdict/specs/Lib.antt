@@ -1,9 +1,2 @@
 pub mod Right
 pub mod Walk
-pub use Rattle.alloc_check_laws.specs.Allocated
-pub use Rattle.alloc_check_laws.specs.Text
-pub use Rattle.alloc_check_laws.specs.Marks
-pub use Rattle.alloc_check_laws.specs.Ranked
-pub use Rattle.alloc_check_laws.specs.RowForm
-pub use Rattle.alloc_check_laws.specs.Rows
-pub use Rattle.alloc_check_laws.specs.NodeRow

@@ -1,14 +1,14 @@
 -- A walk back through all nodes: which lists are known so far.
 use Rattle.std.specs.Prelude.{◌≡◌, ℕ, suc, ◌<◌, ◌≤◌, List, length, Option, Some, None, Bool, true, false, ◌↔◌, IsTrue, Contains, slice_get}
-use Rattle.alloc_check_laws.specs.Function as rtl
+use Rattle.rtl_language.specs.Function as rtl
 use Rattle.ltl.specs.Function as ltl
-use Rattle.alloc_check_laws.specs.NodeRow.{NodeRow}
-use Rattle.alloc_check_laws.specs.Marks.{feeder}
-use Rattle.alloc_check_laws.specs.Handing.{is_fed_by, standing}
-use Rattle.alloc_check_lists.specs.Equation.{Equation}
-use Rattle.alloc_check_lists.specs.Rules.{equations_at, IsRightAt}
-use Rattle.alloc_check_lists.specs.Sets.{SameSet}
-use Rattle.alloc_check_laws.specs.Allocated.{is_marked, filled}
+use Rattle.rtl_passes_marks.specs.declared.row.NodeRow.{NodeRow}
+use Rattle.rtl_passes_marks.specs.Marks.{feeder}
+use Rattle.rtl_passes_marks.specs.Handing.{is_fed_by, standing}
+use Rattle.alloc_check_rules.specs.declared.equation.Equation.{Equation}
+use Rattle.alloc_check_rules.specs.Rules.{equations_at, IsRightAt}
+use Rattle.alloc_check_fill.specs.Sets.{SameSet}
+use Rattle.alloc_check_filled.specs.Allocated.{is_marked, filled}
 use Rattle.alloc_check_verdict.specs.declared.found.Found.{Found}
 use Rattle.alloc_check_verdict.specs.declared.found.Found.TheVariants.{Borrowed, Taken}
 

@@ -1,7 +1,7 @@
 ghost use Rattle.std.specs.Prelude.{◌≡◌};
 ghost use Rattle.alloc_check_verdict.specs.Walk.{found_in};
 
-use alloc_check_lists::Equation;
+use alloc_check_rules::Equation;
 
 /// The equations where an instruction can go on: those of one row, or a list of their own.
 #[derive(Drop)]

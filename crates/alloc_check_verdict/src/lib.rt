@@ -10,7 +10,5 @@ mod rows;
 mod verdict;
 mod walk;
 
-pub use alloc_check_laws::{Fault, NodeRow, entries_of, feeders_of, read_rows, write_rows};
-pub use alloc_check_lists::Equation;
 pub use rows::{EquationLists, Equations, Sizes};
 pub use verdict::{check, why};

@@ -1,12 +1,14 @@
 //! Certificates: rows of equations at marked nodes.
 
 ghost use Rattle.std.specs.Prelude.{◌↔◌, IsTrue};
-ghost use Rattle.alloc_check_laws.specs.Marks.{AreFeeders};
-ghost use Rattle.alloc_check_lists.specs.Right.{SameShape};
-ghost use Rattle.alloc_check_laws.specs.Allocated.{HasForm};
+ghost use Rattle.rtl_passes_marks.specs.Marks.{AreFeeders};
+ghost use Rattle.alloc_check_fill.specs.Right.{SameShape};
+ghost use Rattle.alloc_check_filled.specs.Allocated.{HasForm};
 
-use alloc_check_laws::{Entries, NodeRow, are_rows, push_equation, read_equation};
-use alloc_check_lists::{Equation, is_in_order};
+use rtl_passes_marks::{Entries, NodeRow, are_rows};
+use alloc_check_laws::{push_equation, read_equation};
+use alloc_check_rules::Equation;
+use alloc_check_lists::is_in_order;
 use lang_base::{FormError, NoMemory, Row};
 
 /// The certificate: at marked nodes the equations that hold there. Anybody may propose one, so nothing
@@ -27,7 +29,7 @@ impl Entries for Equations {
     ghost use Rattle.std.specs.Prelude.{◌↔◌, ℕ, List, IsTrue};
     ghost use Rattle.lang_base.specs.Reading.{Reading, IsRead};
     ghost use Rattle.lang_base.specs.Texts.{Appends};
-    ghost use Rattle.alloc_check_lists.specs.Rules.{IsInOrder};
+    ghost use Rattle.alloc_check_rules.specs.Rules.{IsInOrder};
     ghost use Rattle.alloc_check_laws.specs.Reading.{equation};
     ghost use Rattle.alloc_check_laws.specs.Text.{equation_text};
 
@@ -54,7 +56,7 @@ impl Entries for Equations {
     }
 }
 
-fn has_same_shape(input: &alloc_check_laws::Function, output: &ltl::Function) -> bool
+fn has_same_shape(input: &rtl_language::Function, output: &ltl::Function) -> bool
     ensures { IsTrue result ↔ SameShape input.now output.now }
 {
     output.parameters().len() == input.parameters().len()
@@ -64,7 +66,7 @@ fn has_same_shape(input: &alloc_check_laws::Function, output: &ltl::Function) ->
 
 /// Whether the parameters, the entry and the number of nodes agree, and the rows have their form.
 pub(crate) fn has_form(
-    input: &alloc_check_laws::Function,
+    input: &rtl_language::Function,
     output: &ltl::Function,
     feeders: &[Option<u16>],
     rows: &[NodeRow<Equation>],

@@ -1,12 +1,13 @@
 //! Whether an output is accepted, and where it is not.
 
 ghost use Rattle.std.specs.Prelude.{◌↔◌, IsTrue, IfOk};
-ghost use Rattle.alloc_check_laws.specs.Allocated.{IsAllocated};
+ghost use Rattle.alloc_check_filled.specs.Allocated.{IsAllocated};
 ghost use Rattle.alloc_check_verdict.specs.Right.{TellsWhy};
 
 use crate::rows::{EquationLists, has_form};
 use crate::walk::lowest_wrong;
-use alloc_check_laws::{Fault, feeders_of};
+use lang_base::Fault;
+use rtl_passes_marks::feeders_of;
 use lang_base::NoMemory;
 use std::alloc::Global;
 
@@ -14,7 +15,7 @@ use std::alloc::Global;
 /// nodes, differ, or the rows are not for marked nodes alone, by rising nodes, each with equations in order.
 pub fn why(
     alloc: Global,
-    input: &alloc_check_laws::Function,
+    input: &rtl_language::Function,
     output: &ltl::Function,
     equations: &EquationLists,
 ) -> Result<Option<Fault>, NoMemory>
@@ -32,7 +33,7 @@ pub fn why(
 /// Whether the output and the rows keep the rules.
 pub fn check(
     alloc: Global,
-    input: &alloc_check_laws::Function,
+    input: &rtl_language::Function,
     output: &ltl::Function,
     equations: &EquationLists,
 ) -> Result<bool, NoMemory>

@@ -4,24 +4,28 @@
 
 ghost use Rattle.std.specs.Prelude.{◌≡◌, ◌↔◌, ◌<◌, [], ◌∷◌, ◌++◌, length, All, Contains, Some, slice_get, IsTrue, IfOk, OnOk};
 ghost use Rattle.std.specs.List.{AllByRecursion, flat_map};
-ghost use Rattle.alloc_check_laws.specs.Function.{IsFunction};
-ghost use Rattle.alloc_check_laws.specs.Faults.{TellsLowest};
-ghost use Rattle.alloc_check_laws.specs.Handing.{left_by};
-ghost use Rattle.alloc_check_laws.specs.Marks.{AreFeeders, IsMarked};
-ghost use Rattle.alloc_check_lists.specs.Pairs.{successors_of};
-ghost use Rattle.alloc_check_lists.specs.Rules.{equations_at, IsRightAt};
-ghost use Rattle.alloc_check_lists.specs.Fill.{behind, needed};
-ghost use Rattle.alloc_check_lists.specs.Needed.{Keeps};
-ghost use Rattle.alloc_check_lists.specs.Sets.{SameSet};
-ghost use Rattle.alloc_check_laws.specs.Allocated.{filled, HasForm};
+ghost use Rattle.rtl_language.specs.Function.{IsFunction};
+ghost use Rattle.rtl_passes.specs.Faults.{TellsLowest};
+ghost use Rattle.rtl_passes_marks.specs.Handing.{left_by};
+ghost use Rattle.rtl_passes_marks.specs.Marks.{AreFeeders, IsMarked};
+ghost use Rattle.alloc_check_rules.specs.Pairs.{successors_of};
+ghost use Rattle.alloc_check_rules.specs.Rules.{equations_at, IsRightAt};
+ghost use Rattle.alloc_check_fill.specs.Fill.{behind, needed};
+ghost use Rattle.alloc_check_fill.specs.Needed.{Keeps};
+ghost use Rattle.alloc_check_fill.specs.Sets.{SameSet};
+ghost use Rattle.alloc_check_filled.specs.Allocated.{filled, HasForm};
 ghost use Rattle.alloc_check_lists.specs.Ranks.{RiseFrom};
 ghost use Rattle.alloc_check_verdict.specs.Right.{BeginsRight};
 ghost use Rattle.alloc_check_verdict.specs.Walk.{stands_at, found_in, AreTaken, GoesBack};
 
 use crate::carried::put_in_order;
 use crate::found::{Found, equations_in};
-use alloc_check_laws::{Instruction, NodeRow, Said, empty_lists, is_fed, take};
-use alloc_check_lists::{Equation, are_among, hold_at_entry, needed_before};
+use rtl_language::Instruction;
+use rtl_passes_marks::{NodeRow, Said, is_fed, take};
+use rtl_passes::empty_lists;
+use alloc_check_rules::Equation;
+use alloc_check_lists::{are_among, hold_at_entry};
+use alloc_check_fill::needed_before;
 use lang_base::{NoMemory, Row};
 use ltl::Block;
 use std::alloc::Global;
@@ -108,7 +112,7 @@ fn take_behind<'a>(
 
 /// Whether the equations hold at the entry, if the node is that.
 fn begins_right(
-    input: &alloc_check_laws::Function,
+    input: &rtl_language::Function,
     output: &ltl::Function,
     n: usize,
     equations: &[Equation],
@@ -125,7 +129,7 @@ fn begins_right(
 
 /// Whether a marked node's row has what its block needs, and may stand at the entry if the node is that.
 fn is_enough(
-    input: &alloc_check_laws::Function,
+    input: &rtl_language::Function,
     output: &ltl::Function,
     n: usize,
     row: &[Equation],
@@ -138,7 +142,7 @@ fn is_enough(
 }
 
 /// Whether the node is marked, as what feeds each node tells.
-fn is_marked(input: &alloc_check_laws::Function, feeders: &[Option<u16>], n: usize) -> bool
+fn is_marked(input: &rtl_language::Function, feeders: &[Option<u16>], n: usize) -> bool
     requires feeders { AreFeeders input.now.entry input.now.nodes feeders.now }
     requires within { n < length input.now.nodes }
     ensures { IsTrue result ↔ IsMarked input.now.entry input.now.nodes n }
@@ -173,7 +177,7 @@ fn told_before(
 /// is given what its block needs.
 fn go_back(
     alloc: Global,
-    input: &alloc_check_laws::Function,
+    input: &rtl_language::Function,
     output: &ltl::Function,
     feeders: &[Option<u16>],
     said: &Said<Equation>,
@@ -209,7 +213,7 @@ fn go_back(
 /// Finds the lowest node that breaks a rule.
 pub(crate) fn lowest_wrong(
     alloc: Global,
-    input: &alloc_check_laws::Function,
+    input: &rtl_language::Function,
     output: &ltl::Function,
     feeders: &[Option<u16>],
     rows: &[NodeRow<Equation>],

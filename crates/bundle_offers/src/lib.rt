@@ -8,10 +8,6 @@ mod judging;
 mod reading;
 mod reasons;
 
-pub use bundle_reading::{
-    Bundle, Four, Maker, Offers, Texts, all_offers, known_all, link_offers, one_bundle, texts_of,
-    written,
-};
 pub use fault::{OfferFault, PassNumber};
 pub use judged_bundle::JudgedBundle;
 pub use judging::{first_fault, judge_all, stands};

@@ -3,7 +3,7 @@
 ghost use Rattle.lang_base.specs.declared.fault.Fault.{Fault};
 ghost use Rattle.bundle_offers.specs.Reasons.{IsReason};
 
-use bundle_reading::Alloc;
+use alloc_check::Alloc;
 use constprop_check::ConstProp;
 use cse_check::Cse;
 use lang_base::{Fault, Language, NoMemory, Pass};
@@ -67,9 +67,9 @@ impl Reasons<Alloc> for PassReasons {
         alloc: Global,
         input: &rtl_language::Function,
         output: &ltl::Function,
-        certificate: &bundle_reading::EquationLists,
+        certificate: &alloc_check_verdict::EquationLists,
     ) -> Result<Option<Fault>, NoMemory> {
-        bundle_reading::why(alloc, input, output, certificate)
+        alloc_check_verdict::why(alloc, input, output, certificate)
     }
 }
 

@@ -10,7 +10,7 @@ use Rattle.linear_language.specs.Function as linear
 use Rattle.rtl_passes_facts.specs.Certificates as facts
 use Rattle.constprop_check_rules.specs.Rules.{propagation}
 use Rattle.cse_check_rules.specs.Rules.{elimination}
-use Rattle.chains.specs.Text as allocation
+use Rattle.alloc_check_laws.specs.Text as allocation
 use Rattle.linearize_check.specs.OrderForm as order
 use Rattle.chains.specs.declared.offering.Offers.{Offers}
 use Rattle.bundle_form.proofs.Forms.{bundle_form}

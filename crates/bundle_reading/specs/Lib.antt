@@ -1,11 +1,3 @@
 pub mod LentOffers
 pub mod Read
 pub mod Texts
-pub use Rattle.bundle_form.specs.Form
-pub use Rattle.chains.specs.Baselines
-pub use Rattle.chains.specs.Lent
-pub use Rattle.chains.specs.Offered
-pub use Rattle.chains.specs.declared.offering.Offers
-pub use Rattle.chains.specs.Chains
-pub use Rattle.chains.specs.Right
-pub use Rattle.chains.specs.Text

@@ -1,4 +1,4 @@
-use chains::Alloc;
+use alloc_check::Alloc;
 use constprop_check::ConstProp;
 use cse_check::Cse;
 use linearize_check::Linearize;

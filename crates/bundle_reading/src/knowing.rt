@@ -1,7 +1,7 @@
 ghost use Rattle.std.specs.Prelude.{◌≡◌, IfOk};
 ghost use Rattle.std.specs.List.{AllByRecursion};
 ghost use Rattle.bundle_reading.specs.Read.{offers_in, offers_of};
-ghost use Rattle.chains.specs.Baselines.{AreAccepted};
+ghost use Rattle.chains.specs.Accepted.{AreAccepted};
 
 use crate::four::Four;
 use chains::Offers;

@@ -2,7 +2,7 @@
 
 ghost use Rattle.bundle_reading.specs.Texts.{HasOneBundle};
 
-use chains::Alloc;
+use alloc_check::Alloc;
 use constprop_check::ConstProp;
 use cse_check::Cse;
 use linearize_check::Linearize;

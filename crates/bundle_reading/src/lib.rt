@@ -9,8 +9,6 @@ mod laws;
 mod reading;
 mod writing;
 
-pub use bundle_form::{Bundle, Texts};
-pub use chains::{Alloc, Chain, EquationLists, Maker, Offers, all_offers, link_offers, why};
 pub use four::Four;
 pub use gathering::{gathered, places_for};
 pub use knowing::known_all;

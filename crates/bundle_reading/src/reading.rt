@@ -4,7 +4,7 @@ ghost use Rattle.std.specs.Prelude.{◌≡◌};
 ghost use Rattle.bundle_reading.specs.Read.{IsPartsText, both_of, four_found};
 
 use crate::four::Four;
-use chains::Alloc;
+use alloc_check::Alloc;
 use constprop_check::ConstProp;
 use cse_check::Cse;
 use lang_base::{FormError, Pass};

@@ -3,13 +3,14 @@
 ghost use Rattle.std.specs.Prelude.{◌≡◌, ◌≤◌, length, IfOk, OnOk};
 ghost use Rattle.std.specs.List.{AllByRecursion};
 ghost use Rattle.offers.specs.Text.{text_of, PartsFit};
-ghost use Rattle.chains.specs.Baselines.{AreAccepted};
+ghost use Rattle.chains.specs.Accepted.{AreAccepted};
 ghost use Rattle.bundle_form.specs.Form.{bundle_text, AreBytes, BlockFits, IsBundle, IsShort, TextsFit};
 ghost use Rattle.bundle_reading.specs.LentOffers.{lent_offers};
 ghost use Rattle.bundle_reading.specs.Texts.{texts_of, OffersFit};
 
 use bundle_form::{Bundle, Texts, write};
-use chains::{Alloc, Chain};
+use alloc_check::Alloc;
+use linker::Chain;
 use constprop_check::ConstProp;
 use cse_check::Cse;
 use lang_base::{NoMemory, Pass, Row};

@@ -1,4 +1,4 @@
-use c_checker_declarations::Here;
+use c_checker_bodies::Here;
 use c_checker_terms::Functions;
 use c_program::GlobalVariable;
 

@@ -11,7 +11,7 @@ ghost use Rattle.c_checker.specs.Reached.{file_of, faults_in, globals_of, functi
 
 use crate::declaration::take;
 use crate::progress::Progress;
-use c_checker_declarations::Here;
+use c_checker_bodies::Here;
 use c_checker_rules::CheckError;
 use c_checker_scopes::Scopes;
 use c_checker_terms::Functions;

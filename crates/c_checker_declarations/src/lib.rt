@@ -10,7 +10,6 @@ mod names;
 mod parameters;
 mod signatures;
 
-pub use c_checker_bodies::Here;
 pub use declaring::declare_function;
 pub use functions::{check_function, check_prototype, function_with};
 pub use global::check_global;

@@ -2,10 +2,10 @@
 use Rattle.std.proofs.Common.{◌≡◌, ℕ, Option, Some, None, refl, sym, ap, ◌∙◌}
 use Rattle.std.specs.Prelude.{option_and_then}
 use Rattle.ints.specs.declared.operators.Op.{Op}
-use Rattle.c_program.specs.IntegerType.{IntegerType}
-use Rattle.c_program.specs.AssignOperator.{AssignOperator}
-use Rattle.c_program.specs.AssignOperator.TheVariants as A
-use Rattle.c_program.specs.Signs.{binary_of}
+use Rattle.c_syntax.specs.declared.constant.IntegerType.{IntegerType}
+use Rattle.c_syntax.specs.declared.expression.AssignOperator.{AssignOperator}
+use Rattle.c_syntax.specs.declared.expression.AssignOperator.TheVariants as A
+use Rattle.c_syntax.specs.Signs.{binary_of}
 use Rattle.c_program.specs.Trees.{TermTree}
 use Rattle.c_program.specs.Trees as P
 use Rattle.c_program.specs.Values.{cell_of, on_two}

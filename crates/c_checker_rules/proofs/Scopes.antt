@@ -2,8 +2,8 @@
 use Rattle.std.proofs.Common.{◌≡◌, ℕ, ◌-◌, ◌≤◌, [], ◌∷◌, ◌++◌, length, drop, refl, sym, ap, ◌∙◌, append_assoc, arith}
 use Rattle.std.proofs.lemmas.List.{length-append}
 use Rattle.std.proofs.Math.Seq.{drop-append_seam}
-use Rattle.c_program.specs.CSyntaxTrees.{StartTree, StatementTree, StatementsTree}
-use Rattle.c_program.specs.CSyntaxTrees as T
+use Rattle.c_syntax.specs.Trees.{StartTree, StatementTree, StatementsTree}
+use Rattle.c_syntax.specs.Trees as T
 use Rattle.c_checker_rules.specs.Names.{Scope}
 use Rattle.c_checker_rules.specs.Locals.{Here}
 use Rattle.c_checker_rules.specs.Statements.{with_start, after, after_all}

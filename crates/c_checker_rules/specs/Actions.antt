@@ -1,8 +1,8 @@
 -- What a statement stands for (C99 6.8): its names are resolved, each declaration is reached where it stands, and all
 -- loops are one.
 use Rattle.std.specs.Prelude.{ℕ, suc, Option, Some, None}
-use Rattle.c_program.specs.CSyntaxTrees.{ExpressionTree, ValueTree, LvalueTree, ChangeTree, SetTree, LocalTree, StartTree, StatementTree, StatementsTree}
-use Rattle.c_program.specs.CSyntaxTrees as T
+use Rattle.c_syntax.specs.Trees.{ExpressionTree, ValueTree, LvalueTree, ChangeTree, SetTree, LocalTree, StartTree, StatementTree, StatementsTree}
+use Rattle.c_syntax.specs.Trees as T
 use Rattle.c_program.specs.declared.action.Target.{Target}
 use Rattle.c_program.specs.declared.action.Target.TheVariants as G
 use Rattle.c_program.specs.Trees.{TermTree, GivenTree, ActionTree, ActionsTree}
@@ -10,7 +10,7 @@ use Rattle.c_program.specs.Trees as P
 use Rattle.c_checker_rules.specs.declared.meaning.Meaning.{Meaning}
 use Rattle.c_checker_rules.specs.declared.meaning.Meaning.TheVariants as M
 use Rattle.c_checker_rules.specs.Names.{Scope, meaning_of}
-use Rattle.c_program.specs.Signs.{binary_of}
+use Rattle.c_syntax.specs.Signs.{binary_of}
 use Rattle.c_checker_rules.specs.Types.{variable_type, type_of}
 use Rattle.c_checker_rules.specs.Terms.{array_number, variable_term, binary_term, change_operator, term_of}
 use Rattle.c_checker_rules.specs.Calls.{Functions, call_given, value_given}

@@ -2,10 +2,10 @@
 use Rattle.std.specs.Prelude.{ℕ, ◌==◌, List, [], ◌∷◌, ◌++◌, length, map, Option, Some, None, is_some, Bool, true, not, ◌||◌, if◌then◌else◌, slice_get, codes}
 use Rattle.std.specs.Str.{bytes_eq}
 use Rattle.c_checker_scopes.specs.Bound.{Bound, found}
-use Rattle.c_program.specs.ReturnType.{ReturnType}
-use Rattle.c_program.specs.ReturnType.TheVariants as R
-use Rattle.c_program.specs.CSyntaxTrees.{ExpressionTree, CallTree, ValueTree}
-use Rattle.c_program.specs.CSyntaxTrees as T
+use Rattle.c_syntax.specs.declared.declaration.ReturnType.{ReturnType}
+use Rattle.c_syntax.specs.declared.declaration.ReturnType.TheVariants as R
+use Rattle.c_syntax.specs.Trees.{ExpressionTree, CallTree, ValueTree}
+use Rattle.c_syntax.specs.Trees as T
 use Rattle.c_program.specs.Trees.{TermTree, GivenTree}
 use Rattle.c_program.specs.Trees as P
 use Rattle.c_checker_rules.specs.declared.errors.CheckError.{CheckError}

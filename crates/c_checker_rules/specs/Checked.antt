@@ -2,8 +2,8 @@
 -- too high.
 use Rattle.std.specs.Prelude.{◌≡◌, ℕ, List, map}
 use Rattle.std.specs.List.{AllByRecursion}
-use Rattle.c_program.specs.CSyntaxTrees.{UnitTree}
-use Rattle.c_program.specs.Heights.{IsLow}
+use Rattle.c_syntax.specs.Trees.{UnitTree}
+use Rattle.c_syntax.specs.Heights.{IsLow}
 use Rattle.c_program.specs.declared.function.GlobalVariable.{GlobalVariable}
 use Rattle.c_program.specs.declared.function.Function.{Function}
 use Rattle.c_program.specs.Trees.{ProgramTree}

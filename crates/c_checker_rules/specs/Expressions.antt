@@ -1,7 +1,7 @@
 -- What is not well formed in an expression, in the order of the text (C99 6.5.1, 6.5.2.1).
 use Rattle.std.specs.Prelude.{ℕ, List, [], ◌∷◌, ◌++◌, Option, Some, None}
-use Rattle.c_program.specs.CSyntaxTrees.{ExpressionTree}
-use Rattle.c_program.specs.CSyntaxTrees as T
+use Rattle.c_syntax.specs.Trees.{ExpressionTree}
+use Rattle.c_syntax.specs.Trees as T
 use Rattle.c_checker_rules.specs.declared.errors.CheckError.{CheckError}
 use Rattle.c_checker_rules.specs.declared.errors.CheckError.TheVariants.{Undeclared, ArrayUse}
 use Rattle.c_checker_rules.specs.declared.meaning.Meaning.{Meaning}

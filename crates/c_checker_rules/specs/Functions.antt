@@ -1,14 +1,14 @@
 -- Functions and prototypes (C99 5.1.2.2.1, 6.7.5.3 and 6.9.1): what is not well formed in one, and what it stands for.
 use Rattle.std.specs.Prelude.{ℕ, suc, ◌==◌, List, [], ◌∷◌, ◌++◌, length, map, Option, Some, None, Bool, true, false, not, ◌&&◌, ◌||◌, if◌then◌else◌, nat_lt}
-use Rattle.c_program.specs.IntegerType.{IntegerType}
-use Rattle.c_program.specs.IntegerType.TheVariants.{Int, Unsigned}
+use Rattle.c_syntax.specs.declared.constant.IntegerType.{IntegerType}
+use Rattle.c_syntax.specs.declared.constant.IntegerType.TheVariants.{Int, Unsigned}
 use Rattle.c_checker_scopes.specs.Bound.{Bound, found}
-use Rattle.c_program.specs.Identifier.{Identifier}
-use Rattle.c_program.specs.ReturnType.{ReturnType}
-use Rattle.c_program.specs.ReturnType.TheVariants as R
-use Rattle.c_program.specs.Parameter.{Parameter}
-use Rattle.c_program.specs.OpenParameter.{OpenParameter}
-use Rattle.c_program.specs.CSyntaxTrees.{FunctionTree}
+use Rattle.c_syntax.specs.declared.identifier.Identifier.{Identifier}
+use Rattle.c_syntax.specs.declared.declaration.ReturnType.{ReturnType}
+use Rattle.c_syntax.specs.declared.declaration.ReturnType.TheVariants as R
+use Rattle.c_syntax.specs.declared.declaration.Parameter.{Parameter}
+use Rattle.c_syntax.specs.declared.declaration.OpenParameter.{OpenParameter}
+use Rattle.c_syntax.specs.Trees.{FunctionTree}
 use Rattle.c_program.specs.declared.function.Ending.{Ending}
 use Rattle.c_program.specs.declared.function.Ending.TheVariants.{Returns, ReturnsZero, GoesWrong}
 use Rattle.c_program.specs.Trees as P

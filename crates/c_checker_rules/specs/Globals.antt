@@ -1,9 +1,9 @@
 -- Global variables and arrays (C99 6.7.8 and 6.9.2): what is not well formed in one, and what it begins with.
 use Rattle.std.specs.Prelude.{ℕ, ◌+◌, ◌==◌, List, [], ◌∷◌, ◌++◌, length, map, Option, Some, None, is_some, Bool, true, false, not, ◌&&◌, ◌||◌, if◌then◌else◌, nat_lt, nat_le, codes}
 use Rattle.std.specs.Str.{bytes_eq}
-use Rattle.c_program.specs.Constant.{Constant}
-use Rattle.c_program.specs.CSyntaxTrees.{ExpressionTree, InitialTree, InitializerTree, GlobalTree}
-use Rattle.c_program.specs.CSyntaxTrees as T
+use Rattle.c_syntax.specs.declared.constant.Constant.{Constant}
+use Rattle.c_syntax.specs.Trees.{ExpressionTree, InitialTree, InitializerTree, GlobalTree}
+use Rattle.c_syntax.specs.Trees as T
 use Rattle.c_program.specs.declared.function.GlobalVariable.{GlobalVariable}
 use Rattle.c_program.specs.Values.{nothing_declared, value}
 use Rattle.c_checker_rules.specs.declared.errors.CheckError.{CheckError}

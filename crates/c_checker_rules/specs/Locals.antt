@@ -1,8 +1,8 @@
 -- Declarations of locals (C99 6.2.1 and 6.7), and what is known where a statement stands.
 use Rattle.std.specs.Prelude.{ℕ, suc, ◌==◌, List, ◌∷◌, ◌++◌, length, Option, Some, None, Bool, true, false, not, ◌&&◌, nat_lt, nat_le}
-use Rattle.c_program.specs.IntegerType.{IntegerType}
+use Rattle.c_syntax.specs.declared.constant.IntegerType.{IntegerType}
 use Rattle.c_checker_scopes.specs.Bound.{Bound, found}
-use Rattle.c_program.specs.Identifier.{Identifier}
+use Rattle.c_syntax.specs.declared.identifier.Identifier.{Identifier}
 use Rattle.c_checker_rules.specs.declared.errors.CheckError.{CheckError}
 use Rattle.c_checker_rules.specs.declared.errors.CheckError.TheVariants.{Redeclared, Limit}
 use Rattle.c_checker_rules.specs.declared.meaning.Meaning.{Meaning}

@@ -2,7 +2,7 @@
 use Rattle.std.specs.Prelude.{List, Option}
 use Rattle.std.specs.Option.{option_map}
 use Rattle.c_checker_scopes.specs.Bound.{Bound, found}
-use Rattle.c_program.specs.Identifier.{Identifier}
+use Rattle.c_syntax.specs.declared.identifier.Identifier.{Identifier}
 use Rattle.c_checker_rules.specs.declared.meaning.Meaning.{Meaning}
 
 -- the names that are declared, the newest first

@@ -1,9 +1,9 @@
 -- What is not well formed in a statement, in the order of the text (C99 6.8), and what is declared behind it.
 use Rattle.std.specs.Prelude.{ℕ, suc, List, [], ◌∷◌, ◌++◌, Option, Some, None, false}
-use Rattle.c_program.specs.ReturnType.{ReturnType}
-use Rattle.c_program.specs.ReturnType.TheVariants as R
-use Rattle.c_program.specs.CSyntaxTrees.{ExpressionTree, ValueTree, LvalueTree, ChangeTree, SetTree, LocalTree, StartTree, StatementTree, StatementsTree}
-use Rattle.c_program.specs.CSyntaxTrees as T
+use Rattle.c_syntax.specs.declared.declaration.ReturnType.{ReturnType}
+use Rattle.c_syntax.specs.declared.declaration.ReturnType.TheVariants as R
+use Rattle.c_syntax.specs.Trees.{ExpressionTree, ValueTree, LvalueTree, ChangeTree, SetTree, LocalTree, StartTree, StatementTree, StatementsTree}
+use Rattle.c_syntax.specs.Trees as T
 use Rattle.c_checker_rules.specs.declared.errors.CheckError.{CheckError}
 use Rattle.c_checker_rules.specs.declared.errors.CheckError.TheVariants.{VoidValue, StrayBreak}
 use Rattle.c_checker_rules.specs.Told.{unless}

@@ -2,18 +2,18 @@
 -- their operands. A conversion between the two types keeps the word (6.3.1.3), so a cast and unary `+` leave the
 -- term as it is. Where a name is not declared as a variable, any term would do: such an expression is not well formed.
 use Rattle.std.specs.Prelude.{ℕ, Option, Some, None}
-use Rattle.c_program.specs.IntegerType.{IntegerType}
-use Rattle.c_program.specs.IntegerType.TheVariants.{Int, Unsigned}
+use Rattle.c_syntax.specs.declared.constant.IntegerType.{IntegerType}
+use Rattle.c_syntax.specs.declared.constant.IntegerType.TheVariants.{Int, Unsigned}
 use Rattle.ints.specs.declared.operators.Op.{Op}
 use Rattle.ints.specs.declared.operators.Op.TheVariants as O
-use Rattle.c_program.specs.UnaryOperator.{UnaryOperator}
-use Rattle.c_program.specs.UnaryOperator.TheVariants as U
-use Rattle.c_program.specs.BinaryOperator.{BinaryOperator}
-use Rattle.c_program.specs.BinaryOperator.TheVariants as B
-use Rattle.c_program.specs.AssignOperator.{AssignOperator}
-use Rattle.c_program.specs.AssignOperator.TheVariants as A
-use Rattle.c_program.specs.CSyntaxTrees.{ExpressionTree}
-use Rattle.c_program.specs.CSyntaxTrees as T
+use Rattle.c_syntax.specs.declared.expression.UnaryOperator.{UnaryOperator}
+use Rattle.c_syntax.specs.declared.expression.UnaryOperator.TheVariants as U
+use Rattle.c_syntax.specs.declared.expression.BinaryOperator.{BinaryOperator}
+use Rattle.c_syntax.specs.declared.expression.BinaryOperator.TheVariants as B
+use Rattle.c_syntax.specs.declared.expression.AssignOperator.{AssignOperator}
+use Rattle.c_syntax.specs.declared.expression.AssignOperator.TheVariants as A
+use Rattle.c_syntax.specs.Trees.{ExpressionTree}
+use Rattle.c_syntax.specs.Trees as T
 use Rattle.c_program.specs.Trees.{TermTree}
 use Rattle.c_program.specs.Trees as P
 use Rattle.c_checker_rules.specs.declared.meaning.Meaning.{Meaning}

@@ -1,13 +1,13 @@
 -- The type of an expression (C99 6.3.1.8 and 6.5).
 use Rattle.std.specs.Prelude.{Option, Some, None}
-use Rattle.c_program.specs.IntegerType.{IntegerType}
-use Rattle.c_program.specs.IntegerType.TheVariants.{Int, Unsigned}
-use Rattle.c_program.specs.UnaryOperator.{UnaryOperator}
-use Rattle.c_program.specs.UnaryOperator.TheVariants as U
-use Rattle.c_program.specs.BinaryOperator.{BinaryOperator}
-use Rattle.c_program.specs.BinaryOperator.TheVariants as B
-use Rattle.c_program.specs.CSyntaxTrees.{ExpressionTree}
-use Rattle.c_program.specs.CSyntaxTrees as T
+use Rattle.c_syntax.specs.declared.constant.IntegerType.{IntegerType}
+use Rattle.c_syntax.specs.declared.constant.IntegerType.TheVariants.{Int, Unsigned}
+use Rattle.c_syntax.specs.declared.expression.UnaryOperator.{UnaryOperator}
+use Rattle.c_syntax.specs.declared.expression.UnaryOperator.TheVariants as U
+use Rattle.c_syntax.specs.declared.expression.BinaryOperator.{BinaryOperator}
+use Rattle.c_syntax.specs.declared.expression.BinaryOperator.TheVariants as B
+use Rattle.c_syntax.specs.Trees.{ExpressionTree}
+use Rattle.c_syntax.specs.Trees as T
 use Rattle.c_checker_rules.specs.declared.meaning.Meaning.{Meaning}
 use Rattle.c_checker_rules.specs.declared.meaning.Meaning.TheVariants as M
 use Rattle.c_checker_rules.specs.Names.{Scope, meaning_of}

@@ -1,9 +1,9 @@
 -- A whole text (C99 5.1.2.2.1 and 6.9): when it is well formed, and the program that it then stands for.
 use Rattle.std.specs.Prelude.{◌≡◌, ℕ, suc, ◌+◌, List, [], ◌∷◌, ◌++◌, map, Option, Some, None, is_some, codes}
 use Rattle.c_checker_scopes.specs.Bound.{Bound, found}
-use Rattle.c_program.specs.CSyntaxTrees.{GlobalTree, FunctionTree, DeclarationTree, UnitTree}
-use Rattle.c_program.specs.CSyntaxTrees as T
-use Rattle.c_program.specs.Prototype.{Prototype}
+use Rattle.c_syntax.specs.Trees.{GlobalTree, FunctionTree, DeclarationTree, UnitTree}
+use Rattle.c_syntax.specs.Trees as T
+use Rattle.c_syntax.specs.declared.declaration.Prototype.{Prototype}
 use Rattle.c_program.specs.declared.function.GlobalVariable.{GlobalVariable}
 use Rattle.c_program.specs.Trees.{ProgramTree}
 use Rattle.c_program.specs.Trees as P

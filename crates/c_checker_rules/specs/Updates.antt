@@ -1,8 +1,8 @@
 -- What an update of a cell does is what the assignment would do, for which it stands (C99 6.5.16.2): the index has one word.
 use Rattle.std.specs.Prelude.{◌≡◌, ℕ}
-use Rattle.c_program.specs.IntegerType.{IntegerType}
-use Rattle.c_program.specs.AssignOperator.{AssignOperator}
-use Rattle.c_program.specs.Signs.{binary_of}
+use Rattle.c_syntax.specs.declared.constant.IntegerType.{IntegerType}
+use Rattle.c_syntax.specs.declared.expression.AssignOperator.{AssignOperator}
+use Rattle.c_syntax.specs.Signs.{binary_of}
 use Rattle.c_program.specs.Trees.{TermTree}
 use Rattle.c_program.specs.Trees as P
 use Rattle.c_program.specs.State.{State}

@@ -1,4 +1,4 @@
-use c_program::ReturnType;
+use c_syntax::ReturnType;
 
 /// Where a statement stands (C99 6.8).
 #[derive(Clone, Copy, Debug, PartialEq, Eq)]

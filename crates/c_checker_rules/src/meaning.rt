@@ -1,4 +1,4 @@
-use c_program::IntegerType;
+use c_syntax::IntegerType;
 
 /// What a name stands for where it is declared (C99 6.2.1).
 #[derive(Clone, Copy, Debug, PartialEq, Eq)]

@@ -1,4 +1,4 @@
-use c_program::{IntegerType, ReturnType};
+use c_syntax::{IntegerType, ReturnType};
 use lang_base::Row;
 
 /// The type of a function (C99 6.7.5.3).

@@ -11,6 +11,5 @@ mod meaning;
 mod running;
 mod starting;
 
-pub use lang_parts::RunError;
 pub use meaning::run;
 pub use running::run_program;

@@ -5,4 +5,3 @@ pub mod Stacks
 pub mod Resume
 pub mod Costs
 pub mod Steps
-pub use Rattle.c_program.specs.Meaning

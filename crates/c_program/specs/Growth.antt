@@ -1,8 +1,8 @@
 -- From one bound to the next the output of a program only grows, and an end or a fault stays.
 use Rattle.std.proofs.Common.{◌≡◌, ℕ, zero, suc, ◌+◌, ◌==◌, Bool, true, false, cond, List, [], ◌∷◌, ◌++◌, length, Option, Some, None, refl, sym, ap, subst, arith}
 use Rattle.std.specs.Prelude.{slice_get, ◌%◌}
-use Rattle.c_syntax.specs.Behaviour.{IsBeginningOf, GoesOnTo, IsRun}
-use Rattle.c_syntax.proofs.Beginnings.{IsBeginningOf-refl, IsBeginningOf-trans}
+use Rattle.lang_base.specs.Behaviour.{IsBeginningOf, GoesOnTo, IsRun}
+use Rattle.lang_base.proofs.Beginnings.{IsBeginningOf-refl, IsBeginningOf-trans}
 use Rattle.ints.specs.declared.operators.Op.{Op}
 use Rattle.c_program.specs.declared.action.Target.{Target}
 use Rattle.c_program.specs.declared.action.Target.TheVariants.{Nowhere, Local, Global, Caller}

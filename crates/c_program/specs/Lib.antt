@@ -4,17 +4,3 @@ pub mod Values
 pub mod State
 pub mod Meaning
 pub mod Growth
-pub use Rattle.c_syntax.specs.Behaviour
-pub use Rattle.c_syntax.specs.Heights
-pub use Rattle.c_syntax.specs.Signs
-pub use Rattle.c_syntax.specs.Trees as CSyntaxTrees
-pub use Rattle.c_syntax.specs.declared.constant.Constant
-pub use Rattle.c_syntax.specs.declared.constant.IntegerType
-pub use Rattle.c_syntax.specs.declared.declaration.OpenParameter
-pub use Rattle.c_syntax.specs.declared.declaration.Parameter
-pub use Rattle.c_syntax.specs.declared.declaration.Prototype
-pub use Rattle.c_syntax.specs.declared.declaration.ReturnType
-pub use Rattle.c_syntax.specs.declared.expression.AssignOperator
-pub use Rattle.c_syntax.specs.declared.expression.BinaryOperator
-pub use Rattle.c_syntax.specs.declared.expression.UnaryOperator
-pub use Rattle.c_syntax.specs.declared.identifier.Identifier

@@ -1,8 +1,8 @@
 -- What C programs do (C99 5.1.2.2.3, 6.5, 6.8, 6.9.1 and 7.19.7.3), with a bound. The bound is spent at the
 -- head of each turn of a loop and at each call, whose bodies run with one less; what follows runs with it.
 use Rattle.std.specs.Prelude.{ℕ, zero, suc, ◌-◌, ◌%◌, ◌==◌, List, [], ◌∷◌, ◌++◌, length, Option, Some, None, map, replicate, slice_get, if◌then◌else◌}
-use Rattle.c_syntax.specs.Shown.TheVariants.{Running, Ended, Wrong}
-use Rattle.c_syntax.specs.Behaviour.{Shows, Behaviour}
+use Rattle.lang_base.specs.declared.shown.Shown.TheVariants.{Running, Ended, Wrong}
+use Rattle.lang_base.specs.Behaviour.{Shows, Behaviour}
 use Rattle.ints.specs.declared.operators.Op.{Op}
 use Rattle.c_program.specs.declared.action.Target.{Target}
 use Rattle.c_program.specs.declared.action.Target.TheVariants.{Nowhere, Local, Global, Caller}

@@ -1,5 +1,5 @@
 use crate::term::Term;
-use c_syntax::Row;
+use lang_base::Row;
 use ints::Op;
 
 /// A call of a function with a body.

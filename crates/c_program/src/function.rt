@@ -1,5 +1,6 @@
 use crate::action::Action;
-use c_syntax::{Name, Row};
+use c_syntax::Name;
+use lang_base::Row;
 
 /// What the end of a function's body means (C99 5.1.2.2.3, 6.9.1).
 #[derive(Clone, Copy, Debug, PartialEq, Eq)]

@@ -1,6 +1,6 @@
 //! The law of C's meaning, as the contract of a call that does nothing else.
 
-ghost use Rattle.c_syntax.specs.Behaviour.{IsRun};
+ghost use Rattle.lang_base.specs.Behaviour.{IsRun};
 ghost use Rattle.c_program.specs.Trees.{ProgramTree};
 ghost use Rattle.c_program.specs.Meaning.{crun};
 

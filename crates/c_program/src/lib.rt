@@ -9,7 +9,6 @@ mod law;
 mod term;
 
 pub use action::{Action, Called, Target, Value};
-pub use c_syntax::{IntegerType, ReturnType};
 pub use function::{Ending, Function, GlobalVariable};
 pub use law::c_runs_on;
 pub use term::Term;

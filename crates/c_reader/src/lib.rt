@@ -9,7 +9,6 @@ mod misread;
 mod parameters;
 mod reading;
 
-pub use c_syntax::Unit;
 pub use declarations::read_declaration;
 pub use errors::ReadError;
 pub use misread::Misread;

@@ -7,5 +7,4 @@ mod measured;
 mod operators;
 mod reading;
 
-pub use c_reader_expression_laws::{fault_is_due, one_tree, read_is_spelled, spelled_is_read};
 pub use reading::expression;

@@ -1,4 +1,4 @@
-use c_syntax::NoMemory;
+use lang_base::NoMemory;
 use std::alloc::{AllocError, AllocFailed};
 use thiserror::Error;
 

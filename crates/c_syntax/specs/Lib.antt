@@ -7,5 +7,3 @@ pub mod Expressions
 pub mod Statements
 pub mod Declarations
 pub mod Units
-pub use Rattle.lang_base.specs.Behaviour
-pub use Rattle.lang_base.specs.declared.shown.Shown

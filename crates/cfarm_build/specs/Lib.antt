@@ -1,10 +1,2 @@
 pub mod Built
 pub mod Refused
-pub use Rattle.cfarm_build_turns.specs.Nodes
-pub use Rattle.cfarm_build_linking.specs.Carried
-pub use Rattle.cfarm_build_linking.specs.BuildError
-pub use Rattle.cfarm_build_linking.specs.Lines
-pub use Rattle.cfarm_build_linking.specs.Statuses
-pub use Rattle.cfarm_build_linking.specs.Numbers
-pub use Rattle.cfarm_build_linking.specs.Prepared
-pub use Rattle.cfarm_build_linking.specs.Quorum

@@ -7,7 +7,13 @@ ghost use Rattle.rtlgen_definition.specs.Gen.{gen};
 ghost use Rattle.cfarm_build.specs.Built.{IsBuilt};
 ghost use Rattle.cfarm_build.specs.Refused.{IsUnbuilt};
 
-use cfarm_build_linking::{BuildError, Built, Farm, Oracles, Quorums, Source, built_by};
+use cfarm_build_faults::BuildError;
+use cfarm_build_result::Built;
+use farm_nodes::Farm;
+use farm_nodes_passes::Oracles;
+use paxos_core_world::quorum::Quorums;
+use farm_nodes_source::Source;
+use cfarm_build_linking::built_by;
 use cfarm_build_turns::{met_all, run_rounds};
 use cfarm_meter::Meter;
 use durable_pair::Pair;

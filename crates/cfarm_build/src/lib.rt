@@ -5,6 +5,3 @@
 mod building;
 
 pub use building::{build, build_bundled};
-pub use cfarm_build_linking::{
-    BuildError, Built, LogError, OpenFault, Optimising, Quorums, SourceFault, optimisers_of,
-};

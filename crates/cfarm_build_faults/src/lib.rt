@@ -6,9 +6,4 @@ mod error;
 mod names;
 mod telling;
 
-pub use acceptor_log_form::LogError;
 pub use error::BuildError;
-pub use farm_nodes::{
-    Farm, FarmNode, OpenFault, Optimisers, Optimising, Quorums, RunError, Source, SourceFault,
-    meet, optimisers_of, run_threads,
-};

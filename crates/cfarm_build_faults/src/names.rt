@@ -4,7 +4,7 @@ ghost use Rattle.std.specs.Prelude.{◌≡◌};
 ghost use Rattle.cfarm_build_faults.specs.Names.{fault_name, journal_name, link_name};
 
 use acceptor_log_form::LogError;
-use farm_nodes::LinkError;
+use linker::LinkError;
 use farm_nodes_offers::Fault;
 
 pub(crate) fn journal_name(fault: LogError) -> &'static str

@@ -2,7 +2,8 @@
 
 use crate::error::BuildError;
 use crate::names::{fault_name, journal_name, link_name};
-use farm_nodes::{OpenFault, RoomFault};
+use farm_nodes_seated::OpenFault;
+use farm_nodes_function_rooms::RoomFault;
 use farm_nodes_offers::Fault;
 use std::fmt;
 

@@ -4,8 +4,8 @@ use Rattle.std.specs.Prelude.{IfSome}
 use Rattle.sha2.specs.Sha256.{sha256}
 use Rattle.c_checker_rules.specs.Checked.{program_tree}
 use Rattle.farm_nodes_source.specs.declared.source.Source.{Source}
-use Rattle.cfarm_build.specs.Carried.{Carries}
-use Rattle.cfarm_build.specs.Prepared.{IsSourceOf}
+use Rattle.cfarm_build_linking.specs.Carried.{Carries}
+use Rattle.farm_nodes.specs.Prepared.{IsSourceOf}
 use Rattle.cfarm_build_files.specs.Carried.{CarriesProof}
 
 pub carried_of : (text : List ℕ) (source : Source) → IsSourceOf text source → (program : List ℕ) (bundle : Option (List ℕ))

@@ -2,7 +2,7 @@
 use Rattle.std.proofs.Common.{◌≡◌, ℕ, List, Option, inl, inr}
 use Rattle.cfarm_files.specs.Locking.{lock_path}
 use Rattle.cfarm_files.specs.Placing.{Placed, Makes}
-use Rattle.cfarm_build.specs.BuildError.TheVariants.{NoMemory, NoThread, Source, Disks, Failed, Undecided, Unlinked, Names}
+use Rattle.cfarm_build_faults.specs.declared.error.BuildError.TheVariants.{NoMemory, NoThread, Source, Disks, Failed, Undecided, Unlinked, Names}
 use Rattle.cfarm_build_files.specs.Left.{Leaves}
 use Rattle.cfarm_build_folder.proofs.Making.{makes_through, makes_weaker}
 use Rattle.cfarm_build_folder.specs.Disks.{IsJournal, IsOwn, IsRefusedAt}

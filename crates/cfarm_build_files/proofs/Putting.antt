@@ -5,8 +5,8 @@ use Rattle.durable_model.specs.declared.disk.Disk as disks
 use Rattle.durable_pair.specs.declared.pair.Pair as pairs
 use Rattle.rooms_hall.specs.declared.hall.Naming as naming
 use Rattle.cfarm_build.specs.Built.{Built}
-use Rattle.cfarm_build.specs.Carried.{bundle_of}
-use Rattle.cfarm_build.specs.BuildError.TheVariants.{NoMemory}
+use Rattle.cfarm_build_linking.specs.Carried.{bundle_of}
+use Rattle.cfarm_build_faults.specs.declared.error.BuildError.TheVariants.{NoMemory}
 use Rattle.cfarm_files.specs.Placing.{Placed}
 use Rattle.cfarm_options.specs.declared.options.BuildOptions.{BuildOptions}
 use Rattle.cfarm_build_folder.specs.Putting.{bundle_path, IsUnbundled, PlacesBundle, PutsNoProgram}

@@ -17,11 +17,11 @@ use Rattle.rooms_hall.specs.declared.hall.Naming as naming
 use Rattle.farm_nodes_source.specs.Refused.{IsUnprepared}
 use Rattle.farm_nodes_source.specs.declared.source.Source.{Source}
 use Rattle.farm_nodes_source.specs.declared.fault.SourceFault.{SourceFault}
-use Rattle.cfarm_build.specs.Prepared.{IsSourceOf}
+use Rattle.farm_nodes.specs.Prepared.{IsSourceOf}
 use Rattle.cfarm_build.specs.Refused.{IsUnbuilt}
 use Rattle.cfarm_build.specs.Built.{Built}
-use Rattle.cfarm_build.specs.BuildError.{BuildError}
-use Rattle.cfarm_build.specs.BuildError.TheVariants.{NoMemory, NoThread, Source as TextFault, Disks, Failed, Undecided, Unlinked, Names}
+use Rattle.cfarm_build_faults.specs.declared.error.BuildError.{BuildError}
+use Rattle.cfarm_build_faults.specs.declared.error.BuildError.TheVariants.{NoMemory, NoThread, Source as TextFault, Disks, Failed, Undecided, Unlinked, Names}
 use Rattle.cfarm_files.specs.Placing.{Placed, GivesNoMore, Keeps, Makes}
 use Rattle.cfarm_files.specs.Locking.{lock_path}
 use Rattle.cfarm_options.specs.Sizes.{count_of}

@@ -5,13 +5,13 @@ use Rattle.durable_pair.specs.declared.pair.Pair as pairs
 use Rattle.rooms_hall.specs.declared.hall.Naming as naming
 use Rattle.farm_nodes_source.specs.Refused.{IsUnprepared}
 use Rattle.farm_nodes_source.specs.declared.source.Source.{Source}
-use Rattle.cfarm_build.specs.Prepared.{IsSourceOf}
+use Rattle.farm_nodes.specs.Prepared.{IsSourceOf}
 use Rattle.cfarm_build.specs.Built.{Built, IsBuilt}
-use Rattle.cfarm_build.specs.Carried.{bundle_of}
+use Rattle.cfarm_build_linking.specs.Carried.{bundle_of}
 use Rattle.cfarm_build.specs.Refused.{IsUnbuilt}
-use Rattle.cfarm_build.specs.BuildError.TheVariants.{NoMemory, NoThread, Source as TextFault, Disks, Failed, Undecided, Unlinked, Names}
-use Rattle.cfarm_build.specs.BuildError.{BuildError}
-use Rattle.cfarm_build.specs.Quorum.{sizes, Sizes}
+use Rattle.cfarm_build_faults.specs.declared.error.BuildError.TheVariants.{NoMemory, NoThread, Source as TextFault, Disks, Failed, Undecided, Unlinked, Names}
+use Rattle.cfarm_build_faults.specs.declared.error.BuildError.{BuildError}
+use Rattle.paxos_core_world.specs.Quorum.{sizes, Sizes}
 use Rattle.cfarm_options.specs.Sizes.{count_of, sizes_of}
 use Rattle.cfarm_files.specs.Locking.{lock_path}
 use Rattle.cfarm_files.specs.Placing.{Placed, Makes}

@@ -1,6 +1,6 @@
 -- What a build that is not done leaves of the files.
 use Rattle.std.specs.Prelude.{ℕ, List, Option}
-use Rattle.cfarm_build.specs.BuildError.TheVariants.{NoMemory, NoThread, Source, Disks, Failed, Undecided, Unlinked, Names}
+use Rattle.cfarm_build_faults.specs.declared.error.BuildError.TheVariants.{NoMemory, NoThread, Source, Disks, Failed, Undecided, Unlinked, Names}
 use Rattle.cfarm_files.specs.Placing.{Placed, Keeps, Makes}
 use Rattle.cfarm_build_folder.specs.Disks.{IsOwn}
 use Rattle.cfarm_build_folder.specs.declared.error.BuildingError.{BuildingError}

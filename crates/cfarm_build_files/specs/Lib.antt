@@ -4,10 +4,3 @@ pub mod Done
 pub mod Farmed
 pub mod Left
 pub mod Put
-pub use Rattle.cfarm_build_folder.specs.Answers
-pub use Rattle.cfarm_build_folder.specs.Changed
-pub use Rattle.cfarm_build_folder.specs.declared.error.BuildingError
-pub use Rattle.cfarm_build.specs.BuildError
-pub use Rattle.cfarm_build.specs.Numbers
-pub use Rattle.cfarm_build.specs.Quorum
-pub use Rattle.cfarm_build.specs.Statuses

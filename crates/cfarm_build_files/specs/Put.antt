@@ -3,7 +3,7 @@ use Rattle.std.specs.Prelude.{◌≡◌, ℕ, List, [], ◌∷◌, ◌++◌, Opt
 use Rattle.std.specs.Io.KnownBytes.{Appends}
 use Rattle.std.specs.String.{string_bytes}
 use Rattle.cfarm_build.specs.Built.{Built}
-use Rattle.cfarm_build.specs.Carried.{bundle_of}
+use Rattle.cfarm_build_linking.specs.Carried.{bundle_of}
 use Rattle.cfarm_files.specs.Placing.{Placed}
 use Rattle.cfarm_options.specs.declared.options.BuildOptions.{BuildOptions}
 use Rattle.cfarm_output.specs.Begun.{IsBegun}

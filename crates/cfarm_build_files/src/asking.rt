@@ -1,10 +1,10 @@
 //! The quorums that are asked for.
 
 ghost use Rattle.std.specs.Prelude.{SomeIff};
-ghost use Rattle.cfarm_build.specs.Quorum.{AreQuorums};
+ghost use Rattle.paxos_core_world.specs.Quorum.{AreQuorums};
 ghost use Rattle.cfarm_build_files.specs.Compiled.{quorums_of};
 
-use cfarm_build::Quorums;
+use paxos_core_world::quorum::Quorums;
 use cfarm_options::BuildOptions;
 
 /// The quorums that are asked for. None where a promise quorum and an accept quorum of these sizes need not meet.

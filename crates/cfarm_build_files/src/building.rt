@@ -9,7 +9,9 @@ ghost use Rattle.cfarm_build_files.specs.Farmed.{FarmBuilds, FarmBuildsNot};
 
 use crate::compiling::compiled;
 use crate::farm::Farm;
-use cfarm_build::{BuildError, Built, Quorums};
+use cfarm_build_faults::BuildError;
+use cfarm_build_result::Built;
+use paxos_core_world::quorum::Quorums;
 use cfarm_build_folder::{BuildingError, place_both};
 use cfarm_files::Files;
 use cfarm_meter::Meter;

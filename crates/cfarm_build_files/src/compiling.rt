@@ -6,8 +6,13 @@ ghost use Rattle.cfarm_build_files.specs.Compiled.{quorums_of};
 ghost use Rattle.cfarm_build_files.specs.Farmed.{FarmCompiles, FarmCompilesNot};
 
 use crate::farm::Farm;
-use cfarm_build::{BuildError, Built, Optimising, Quorums, build_bundled, optimisers_of};
-use cfarm_build_folder::{BuildingError, Optimisers, locked, old_among, open_disks};
+use cfarm_build_faults::BuildError;
+use cfarm_build_result::Built;
+use farm_nodes_compiling::{Optimising, optimisers_of};
+use paxos_core_world::quorum::Quorums;
+use cfarm_build::build_bundled;
+use cfarm_build_folder::{BuildingError, locked, old_among, open_disks};
+use farm_nodes_compiling::Optimisers;
 use cfarm_files::Files;
 use cfarm_meter::Meter;
 use cfarm_offered::{NodeOffers, Outside, outside_of, read_given, tell_ignored};

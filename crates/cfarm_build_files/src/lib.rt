@@ -10,6 +10,4 @@ mod farm;
 
 pub use asking::quorums_of;
 pub use building::build_text;
-pub use cfarm_build::Quorums;
-pub use cfarm_build_folder::{BuildingError, of_build};
 pub use farm::Farm;

@@ -8,7 +8,6 @@ mod locking;
 mod opening;
 mod placing;
 
-pub use cfarm_build_faults::Optimisers;
 pub use error::BuildingError;
 pub use hinting::of_build;
 pub use locking::locked;

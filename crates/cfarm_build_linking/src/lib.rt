@@ -4,9 +4,4 @@
 
 mod linking;
 
-pub use cfarm_build_faults::{
-    BuildError, Farm, FarmNode, LogError, OpenFault, Optimising, Quorums, RunError, Source,
-    SourceFault, meet, optimisers_of, run_threads,
-};
-pub use cfarm_build_result::{Built, NumberedSeat, Oracles, linked_functions};
 pub use linking::built_by;

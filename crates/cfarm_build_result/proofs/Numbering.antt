@@ -4,7 +4,7 @@ use Rattle.std.specs.Prelude.{slice_get}
 use Rattle.std.proofs.lemmas.Bool.{cases_eq}
 use Rattle.std.proofs.lemmas.Option.{slice_get_within}
 use Rattle.rooms_hall.specs.declared.hall.Naming as naming
-use Rattle.farm_nodes_bundled.specs.NumberedSeat.{NumberedSeat}
+use Rattle.rooms_numbered.specs.declared.seat.NumberedSeat.{NumberedSeat}
 use Rattle.cfarm_report.specs.declared.function.FunctionRooms.{FunctionRooms}
 use Rattle.cfarm_build_result.specs.Told.{AreTold, IsTold}
 

@@ -2,15 +2,3 @@ pub mod Made
 pub mod Neighbours
 pub mod Node
 pub mod Told
-pub use Rattle.farm_nodes_bundled.specs.Bundled
-pub use Rattle.farm_nodes_bundled.specs.Alike
-pub use Rattle.farm_nodes_bundled.specs.Fours
-pub use Rattle.farm_nodes_bundled.specs.Held
-pub use Rattle.farm_nodes_bundled.specs.Learned
-pub use Rattle.farm_nodes_bundled.specs.Lists
-pub use Rattle.farm_nodes_bundled.specs.NumberedSeat
-pub use Rattle.farm_nodes_bundled.specs.LinkError
-pub use Rattle.farm_nodes_bundled.specs.Numbers
-pub use Rattle.farm_nodes_bundled.specs.Offered
-pub use Rattle.farm_nodes_bundled.specs.Refused
-pub use Rattle.farm_nodes_bundled.specs.Linking

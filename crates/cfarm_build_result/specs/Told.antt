@@ -3,7 +3,7 @@ use Rattle.std.specs.Prelude.{◌≡◌, ℕ, List, length, map, Some, slice_get
 use Rattle.std.specs.String.{string_bytes}
 use Rattle.c_checker_rules.specs.Checked.{Contents}
 use Rattle.rooms_hall.specs.declared.hall.Naming as naming
-use Rattle.farm_nodes_bundled.specs.NumberedSeat.{NumberedSeat}
+use Rattle.rooms_numbered.specs.declared.seat.NumberedSeat.{NumberedSeat}
 use Rattle.cfarm_report.specs.declared.function.FunctionRooms.{FunctionRooms}
 
 -- the names of a checked program's functions

@@ -7,9 +7,5 @@ mod numbers;
 mod writing;
 
 pub use built::Built;
-pub use farm_nodes_bundled::{
-    FarmNode, LinkError, LinkedError, NumberedSeat, Oracles, is_undecided, linked_translated,
-};
-pub use farm_nodes_source::name_of;
 pub use making::made_of;
 pub use numbers::linked_functions;

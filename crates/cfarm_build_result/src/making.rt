@@ -6,7 +6,7 @@ ghost use Rattle.c_checker_rules.specs.Checked.{program_tree};
 ghost use Rattle.cminor_program_ranges.specs.Names.{HaveNames};
 ghost use Rattle.lang.specs.Form.{IsProgram};
 ghost use Rattle.linear_language.specs.Function.{IsFunction};
-ghost use Rattle.farm_nodes_bundled.specs.Learned.{learned_by, IsUndecided};
+ghost use Rattle.farm_nodes_linked.specs.Learned.{learned_by, IsUndecided};
 ghost use Rattle.cfarm_build_result.specs.Made.{IsBundleOf, IsMadeOf, IsReportAt};
 ghost use Rattle.cfarm_build_result.specs.Told.{function_names};
 
@@ -15,7 +15,8 @@ use crate::numbers::numbers_of;
 use crate::writing::written;
 use c_checker_rules::CProgram;
 use cfarm_report::report;
-use farm_nodes_bundled::{NumberedSeat, bundled};
+use rooms_numbered::NumberedSeat;
+use farm_nodes_bundled::bundled;
 use lang_base::{NoMemory, Program};
 use linear_language::Function;
 use rooms_hall::Naming;

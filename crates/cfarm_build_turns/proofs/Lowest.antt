@@ -2,8 +2,8 @@
 use Rattle.std.proofs.Common.{◌≡◌, ℕ, zero, suc, ◌<◌, ◌≤◌, List, [], ◌∷◌, map, length, get_or, drop, Option, Some, None, refl, sym, ap, ◌∙◌, arith}
 use Rattle.farm_nodes_offers.specs.declared.halt.Fault.{Fault}
 use Rattle.std.specs.List.{AllByRecursion}
-use Rattle.cfarm_build_faults.specs.Halted.{Halted}
-use Rattle.cfarm_build_faults.specs.Held.{fault_in}
+use Rattle.farm_nodes_node.specs.declared.halted.Halted.{Halted}
+use Rattle.farm_nodes_node.specs.Held.{fault_in}
 use Rattle.cfarm_build_turns.specs.Nodes.{lowest_failed}
 
 module _ {N : Type 0} (fault : N → Option Fault) where

@@ -11,19 +11,19 @@ use Rattle.acceptor_log.specs.declared.log.Log.{Log}
 use Rattle.rooms_hall.specs.declared.hall.Naming as naming
 use Rattle.farm_nodes_offers.specs.declared.halt.Fault.{Fault}
 use Rattle.farm_nodes_passes.specs.Offers.{ConstantsOffer, ExpressionsOffer, AllocationOffer, OrderOffer}
-use Rattle.cfarm_build_result.specs.Fours.{Four, fours_of}
-use Rattle.cfarm_build_result.specs.NumberedSeat.{NumberedSeat}
-use Rattle.cfarm_build_faults.specs.FarmNode.{FarmNode}
-use Rattle.cfarm_build_faults.specs.Halted.{Halted}
-use Rattle.cfarm_build_faults.specs.Held.{fault_in, IsSoundNode}
-use Rattle.cfarm_build_faults.specs.Source.{Source}
-use Rattle.cfarm_build_faults.specs.Quorum.{Sizes}
-use Rattle.cfarm_build_result.specs.Alike.{HaveCounted, HaveMissed, KeepsLearned}
-use Rattle.cfarm_build_result.specs.Learned.{FourOffers, learned_by}
-use Rattle.cfarm_build_faults.specs.CameBack.{CameBack}
-use Rattle.cfarm_build_faults.specs.Words.{generators}
-use Rattle.cfarm_build_faults.specs.Back.{AreJournalsOn}
-use Rattle.cfarm_build_faults.specs.Opened.{AreOpenFromJournals}
+use Rattle.farm_nodes_passes.specs.Fours.{Four, fours_of}
+use Rattle.rooms_numbered.specs.declared.seat.NumberedSeat.{NumberedSeat}
+use Rattle.farm_nodes_node.specs.declared.farm_node.FarmNode.{FarmNode}
+use Rattle.farm_nodes_node.specs.declared.halted.Halted.{Halted}
+use Rattle.farm_nodes_node.specs.Held.{fault_in, IsSoundNode}
+use Rattle.farm_nodes_source.specs.declared.source.Source.{Source}
+use Rattle.paxos_core_world.specs.Quorum.{Sizes}
+use Rattle.farm_nodes_linked.specs.Alike.{HaveCounted, HaveMissed, KeepsLearned}
+use Rattle.farm_nodes_linked.specs.Learned.{FourOffers, learned_by}
+use Rattle.farm_nodes_threads.specs.CameBack.{CameBack}
+use Rattle.farm_nodes_joining.specs.Words.{generators}
+use Rattle.farm_nodes_opened.specs.Back.{AreJournalsOn}
+use Rattle.farm_nodes_opened.specs.Opened.{AreOpenFromJournals}
 use Rattle.cfarm_build_result.specs.Node.{Node}
 
 -- a program of as many functions at most as a text that was made ready has

@@ -1,8 +1,8 @@
 ghost use Rattle.std.specs.Prelude.{◌≡◌, map};
-ghost use Rattle.cfarm_build_faults.specs.Held.{fault_in};
+ghost use Rattle.farm_nodes_node.specs.Held.{fault_in};
 ghost use Rattle.cfarm_build_turns.specs.Nodes.{lowest_failed};
 
-use cfarm_build_faults::FarmNode;
+use farm_nodes_node::FarmNode;
 use durable_model::Disk;
 use farm_nodes_offers::Fault;
 use rooms_hall::Naming;

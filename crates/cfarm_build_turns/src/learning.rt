@@ -1,6 +1,6 @@
 //! In how many rooms a node has learned.
 
-use cfarm_build_result::NumberedSeat;
+use rooms_numbered::NumberedSeat;
 use rooms_hall::Naming;
 
 /// Whether in all four rooms of a function a value is learned.

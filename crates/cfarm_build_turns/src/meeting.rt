@@ -3,11 +3,12 @@
 ghost use Rattle.std.specs.Prelude.{◌≡◌, ◌<◌, ◌+◌, IsTrue, None, length};
 ghost use Rattle.std.specs.Arc.{arc_value};
 ghost use Rattle.std.specs.List.{AllByRecursion, AllZip};
-ghost use Rattle.cfarm_build_result.specs.Alike.{HaveCounted};
+ghost use Rattle.farm_nodes_linked.specs.Alike.{HaveCounted};
 ghost use Rattle.cfarm_build_result.specs.Neighbours.{EachTwo};
 ghost use Rattle.cfarm_build_turns.specs.Nodes.{AreCountedAt, AreMissed, HasFewFunctions, NodeStays};
 
-use cfarm_build_faults::{FarmNode, meet};
+use farm_nodes_node::FarmNode;
+use farm_nodes_node_meeting::meet;
 use durable_model::Disk;
 use rooms_hall::Naming;
 

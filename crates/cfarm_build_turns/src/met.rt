@@ -3,15 +3,16 @@
 ghost use Rattle.std.specs.Prelude.{◌≡◌, None, map, OnOk, IfOk, IfErr};
 ghost use Rattle.std.specs.Arc.{arc_value};
 ghost use Rattle.std.specs.List.{AllByRecursion, AllZip};
-ghost use Rattle.cfarm_build_result.specs.Alike.{HaveCounted};
-ghost use Rattle.cfarm_build_faults.specs.Held.{fault_in};
+ghost use Rattle.farm_nodes_linked.specs.Alike.{HaveCounted};
+ghost use Rattle.farm_nodes_node.specs.Held.{fault_in};
 ghost use Rattle.cfarm_build_result.specs.Neighbours.{EachTwo};
 ghost use Rattle.cfarm_build_turns.specs.Nodes.{HasFewFunctions, NodeStays, lowest_failed};
 ghost use Rattle.cfarm_build_turns.specs.Unmet.{IsUnmet};
 
 use crate::failing::first_failed;
 use crate::meeting::meet_neighbours;
-use cfarm_build_faults::{BuildError, FarmNode};
+use cfarm_build_faults::BuildError;
+use farm_nodes_node::FarmNode;
 use durable_model::Disk;
 use rooms_hall::Naming;
 

@@ -2,13 +2,17 @@
 
 ghost use Rattle.std.specs.Prelude.{◌<◌, length, IfOk, IfErr};
 ghost use Rattle.std.specs.List.{AllByRecursion, AllZip};
-ghost use Rattle.cfarm_build_faults.specs.Asked.{MayBeAsked};
-ghost use Rattle.cfarm_build_faults.specs.Turned.{NodeCameBack};
+ghost use Rattle.farm_nodes_node.specs.Asked.{MayBeAsked};
+ghost use Rattle.farm_nodes_threads.specs.Nodes.{NodeCameBack};
 ghost use Rattle.cfarm_build_turns.specs.NotRun.{IsNotRun};
 
 use crate::learning::{has_learned_all, learned_rooms};
-use cfarm_build_faults::{BuildError, FarmNode, RunError, run_threads};
-use cfarm_build_result::{Oracles, linked_functions};
+use cfarm_build_faults::BuildError;
+use farm_nodes_node::FarmNode;
+use farm_nodes_workers::RunError;
+use farm_nodes_threads::run_threads;
+use farm_nodes_passes::Oracles;
+use cfarm_build_result::linked_functions;
 use cfarm_meter::Meter;
 use durable_model::Disk;
 use parallel_validate::OpenGate;

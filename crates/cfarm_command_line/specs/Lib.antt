@@ -1,2 +1,1 @@
 pub mod Sized
-pub use Rattle.cfarm_command_parts.specs.Words

@@ -6,7 +6,4 @@ mod command_line;
 mod fsck_words;
 mod size_words;
 
-pub use cfarm_command_parts::{
-    Asked, Choices, Format, FsckOptions, OfferAt, Showing, Task, VerifyPaths, offered,
-};
 pub use command_line::asked_for;

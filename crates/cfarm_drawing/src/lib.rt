@@ -5,5 +5,4 @@
 mod drawing;
 mod playing;
 
-pub use cfarm_schedules::ScheduleError;
 pub use drawing::draw;

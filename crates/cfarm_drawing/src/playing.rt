@@ -10,10 +10,10 @@ ghost use Rattle.cfarm_drawing_parts.specs.Handed.{handed, has_come, node_of};
 ghost use Rattle.cfarm_drawing_parts.specs.Rows.{sent_by};
 
 use cfarm_drawing_parts::{Origin, add_row, node_of};
-use cfarm_schedules::{
-    Command, Msg, Quorums, Room, ScheduleError, Told, agreement, command_of, next_line, obey,
-    quorums_of,
-};
+use cfarm_schedules_lines::{Command, command_of, quorums_of};
+use paxos_core_world::{msg::Msg, quorum::Quorums};
+use cfarm_schedules::{Room, ScheduleError, Told, next_line, obey};
+use paxos_core::agreement;
 use lang_base::NoMemory;
 use std::alloc::Global;
 

@@ -3,7 +3,8 @@
 ghost use Rattle.std.specs.Prelude.{◌≡◌};
 ghost use Rattle.cfarm_drawing_parts.specs.Marks.{mark_of, mark_tail, name_tail, sending_mark};
 
-use cfarm_schedules::{Command, Told};
+use cfarm_schedules_lines::Command;
+use cfarm_schedules::Told;
 
 /// What a mark says.
 #[derive(Clone, Copy, Debug, PartialEq, Eq)]

@@ -10,7 +10,8 @@ ghost use Rattle.cfarm_schedules.specs.Told.{told_text};
 use crate::elements::{Arrow, add_arrow, add_guide, add_label, add_mark};
 use crate::marks::{mark_of, mark_tail};
 use crate::origin::Origin;
-use cfarm_schedules::{Command, Told};
+use cfarm_schedules_lines::Command;
+use cfarm_schedules::Told;
 use lang_base::NoMemory;
 use std::alloc::Global;
 

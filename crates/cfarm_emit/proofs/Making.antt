@@ -3,7 +3,7 @@ use Rattle.std.proofs.Common.{◌≡◌, ℕ, List, length, Option, sym, ap, ◌
 use Rattle.lang_base.specs.declared.program.Named.{Named}
 use Rattle.lang_base.specs.declared.program.Program.{Program}
 use Rattle.rtl_language.specs.Function as rtl
-use Rattle.bundle_offers.specs.Offers.{Offers}
+use Rattle.chains.specs.declared.offering.Offers.{Offers}
 use Rattle.bundle_offers.proofs.Standings.{as_many}
 use Rattle.cfarm_emit.specs.Made.{AreMade}
 

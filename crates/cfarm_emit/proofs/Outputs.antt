@@ -5,13 +5,13 @@ use Rattle.lang_base.specs.declared.program.Named.{Named}
 use Rattle.rtl_language.specs.Function as rtl
 use Rattle.ltl.specs.Function as ltl
 use Rattle.linker.specs.Chains.{names_of}
-use Rattle.bundle_offers.specs.Offers.{Offers}
-use Rattle.bundle_offers.specs.ChainsLent.{Chain, IsLent}
+use Rattle.chains.specs.declared.offering.Offers.{Offers}
+use Rattle.chains.specs.Lent.{Chain, IsLent}
 use Rattle.bundle_form.specs.declared.bundle.Bundle.{Bundle}
 use Rattle.bundle_form.specs.declared.bundle.Texts.{Texts}
 use Rattle.bundle_form.specs.Form.{bundle_text, IsBundle}
-use Rattle.bundle_offers.specs.Lent.{lent_offers}
-use Rattle.bundle_offers.specs.Texts.{IsBundleOf, OffersFit, bundle_with, texts_of}
+use Rattle.bundle_reading.specs.LentOffers.{lent_offers}
+use Rattle.bundle_reading.specs.Texts.{IsBundleOf, OffersFit, bundle_with, texts_of}
 use Rattle.cfarm_emit.specs.Made.{thirds_of}
 
 abbrev third_of : Named rtl.FunctionData → Offers → Named ltl.FunctionData

@@ -19,10 +19,11 @@ use Rattle.ltl.specs.Function as ltl
 use Rattle.ltl.specs.Spelling as ltl_spelling
 use Rattle.linear_language.specs.Meaning as linear_meaning
 use Rattle.linear_language.specs.Spelling as linear_spelling
-use Rattle.bundle_offers.specs.Offers.{Offers}
-use Rattle.bundle_offers.specs.Baselines.{AreAccepted, AreBaselines}
-use Rattle.bundle_offers.specs.Offered.{AllGoOn, linked_offers}
-use Rattle.bundle_offers.specs.Texts.{IsBundleOf}
+use Rattle.chains.specs.declared.offering.Offers.{Offers}
+use Rattle.chains.specs.Accepted.{AreAccepted}
+use Rattle.chains_made.specs.Baselines.{AreBaselines}
+use Rattle.chains.specs.Offered.{AllGoOn, linked_offers}
+use Rattle.bundle_reading.specs.Texts.{IsBundleOf}
 use Rattle.cfarm_emitted.specs.declared.Emitted.{Emitted}
 use Rattle.cfarm_emitted.specs.declared.Emitted.TheVariants as form
 

@@ -2,12 +2,13 @@
 
 ghost use Rattle.std.specs.Prelude.{◌≡◌, ◌≤◌, length, IfOk};
 ghost use Rattle.c_checker_rules.specs.Checked.{program_tree};
-ghost use Rattle.bundle_offers.specs.Texts.{IsBundleOf};
+ghost use Rattle.bundle_reading.specs.Texts.{IsBundleOf};
 ghost use Rattle.cfarm_emit.specs.Made.{IsBundledOf, IsCminorOf, IsLinearOf, IsLinked, IsLtlOf, IsMadeFrom, IsReady, IsRtlOf};
 
 use crate::offering::{all_texts, made_offers};
 use crate::texts::{headed_text, linked_text, text_of, thirds_text};
-use bundle_offers::{Offers, written};
+use chains::Offers;
+use bundle_reading::written;
 use c_checker_rules::CProgram;
 use cfarm_emitted::Emitted;
 use cminor::lower;

@@ -9,6 +9,5 @@ mod offering;
 mod texts;
 mod thirds;
 
-pub use cfarm_emitted::Emitted;
 pub use emitting::emit;
 pub use error::EmitError;

@@ -2,11 +2,14 @@
 
 ghost use Rattle.std.specs.Prelude.{◌≡◌, None, map, IfOk, OnOk};
 ghost use Rattle.std.specs.List.{AllByRecursion};
-ghost use Rattle.bundle_offers.specs.Texts.{texts_of, OffersFit};
+ghost use Rattle.bundle_reading.specs.Texts.{texts_of, OffersFit};
 ghost use Rattle.bundle_form.specs.Form.{TextsFit};
 ghost use Rattle.cfarm_emit.specs.Made.{AreMade};
 
-use bundle_offers::{Maker, Offers, Texts, all_offers, texts_of};
+use chains::Offers;
+use chains_made::{Maker, all_offers};
+use bundle_form::Texts;
+use bundle_reading::texts_of;
 use lang_base::{Named, NoMemory};
 use rand_pcg::Pcg32;
 use rtl_language::Function;

@@ -3,7 +3,7 @@
 ghost use Rattle.std.specs.Prelude.{◌≡◌, length, IfOk};
 ghost use Rattle.cfarm_emit.specs.Made.{third_program, thirds_of};
 
-use bundle_offers::Offers;
+use chains::Offers;
 use lang_base::{Language, Named, NoMemory, Program, Row};
 use lang_parts::copy_globals;
 use ltl::{Function, Ltl};

@@ -12,7 +12,7 @@ use Rattle.cminor_program_ranges.specs.Names.{HaveNames}
 use Rattle.rtl_language.specs.Meaning as rtl
 use Rattle.rtlgen_definition.specs.Gen.{gen}
 use Rattle.farm_nodes_source.specs.declared.source.Source.{Source}
-use Rattle.cfarm_build_faults.specs.Prepared.{IsSourceOf}
+use Rattle.farm_nodes.specs.Prepared.{IsSourceOf}
 use Rattle.cfarm_files.specs.Placing.{Placed, Keeps, Makes}
 
 -- a text that was made ready

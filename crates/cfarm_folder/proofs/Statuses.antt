@@ -3,7 +3,7 @@ use Rattle.std.specs.Prelude.{ℕ, zero, suc, ◌≤◌}
 use Rattle.std.proofs.Common.{arith}
 use Rattle.farm_nodes_source.specs.Told as texts
 use Rattle.farm_nodes_offers.specs.Halted as halts
-use Rattle.cfarm_build_faults.specs.Numbers.{disks_number_of}
+use Rattle.farm_nodes.specs.Numbers.{disks_number_of}
 use Rattle.cfarm_build_faults.specs.Statuses.{status_of, unless_memory}
 use Rattle.cfarm_build_faults.specs.declared.error.BuildError.{BuildError}
 use Rattle.cfarm_build_faults.specs.declared.error.BuildError.TheVariants as B

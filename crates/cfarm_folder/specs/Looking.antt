@@ -7,7 +7,7 @@ use Rattle.farm_nodes_source.specs.Refused.{IsUnprepared}
 use Rattle.farm_nodes_source.specs.declared.fault.SourceFault.{SourceFault}
 use Rattle.farm_nodes_source.specs.declared.source.Source.{Source}
 use Rattle.cfarm_build_faults.specs.Lines.{build_line}
-use Rattle.cfarm_build_faults.specs.Prepared.{IsSourceOf}
+use Rattle.farm_nodes.specs.Prepared.{IsSourceOf}
 use Rattle.cfarm_build_faults.specs.Statuses.{status_of}
 use Rattle.cfarm_build_faults.specs.declared.error.BuildError.{BuildError}
 use Rattle.cfarm_build_faults.specs.declared.error.BuildError.TheVariants as build

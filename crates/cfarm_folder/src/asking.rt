@@ -5,7 +5,7 @@ ghost use Rattle.paxos_core_world.specs.Quorum.{AreQuorums};
 ghost use Rattle.cfarm_folder.specs.Asked.{asked_quorums};
 
 use cfarm_options::AskedSizes;
-use paxos_core::Quorums;
+use paxos_core_world::quorum::Quorums;
 
 /// The quorums of these sizes. None where a promise quorum and an accept quorum of them need not meet.
 pub fn asked_quorums(asked: AskedSizes) -> Option<Quorums>

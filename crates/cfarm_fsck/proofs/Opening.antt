@@ -7,7 +7,7 @@ use Rattle.paxos_core_world.specs.Quorum.{Sizes}
 use Rattle.acceptor_log_form.specs.declared.record.Record.{Record}
 use Rattle.acceptor_log_form.specs.declared.errors.LogError.{LogError}
 use Rattle.acceptor_log_form.specs.declared.errors.LogError.TheVariants as log
-use Rattle.farm_nodes_seated.specs.RoomFault.{RoomFault}
+use Rattle.farm_nodes_function_rooms.specs.declared.fault.RoomFault.{RoomFault}
 use Rattle.farm_nodes_seated.specs.Refused.{HasBadRecord, HasRefusedOffer, IsRoomUnopened}
 use Rattle.farm_nodes_seated.specs.declared.fault.OpenFault.{OpenFault}
 use Rattle.farm_nodes_seated.specs.declared.fault.OpenFault.TheVariants.{NoMemory, Journal, Refused, Room}

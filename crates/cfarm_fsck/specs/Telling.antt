@@ -5,7 +5,7 @@ use Rattle.lang_base.specs.declared.program.Named.{Named}
 use Rattle.rtl_language.specs.declared.function.Function.{Function}
 use Rattle.paxos_core_world.specs.KeptPart.{KeptPart}
 use Rattle.acceptor_log_form.specs.declared.record.Record.{Record}
-use Rattle.farm_nodes_seated.specs.Kept.{kept_of}
+use Rattle.farm_nodes_function_rooms.specs.Kept.{kept_of}
 use Rattle.cfarm_fsck_lines.specs.Lines.{node_line, room_rest}
 
 -- a line for each of a list, counted from this number

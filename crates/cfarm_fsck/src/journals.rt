@@ -4,10 +4,10 @@ ghost use Rattle.std.specs.Prelude.{◌≡◌, length, IfOk, IfErr};
 ghost use Rattle.farm_nodes_disks.specs.Journals.{header_of};
 ghost use Rattle.cfarm_fsck.specs.Folder.{AreJournalsIn, IsNoOther, IsOfRefusedFile};
 
-use acceptor_log::{Header, Record};
+use acceptor_log_form::{Header, Record};
 use cfarm_fsck_journals::{NodeFiles, journal_of};
 use farm_nodes_seated::OpenFault;
-use paxos_core::Quorums;
+use paxos_core_world::quorum::Quorums;
 use std::alloc::Global;
 
 /// Whose journal it is, in a farm with these quorums.

@@ -8,6 +8,5 @@ mod journals;
 mod parts;
 mod printing;
 
-pub use cfarm_fsck_journals::NodeFiles;
 pub use command::fsck;
 pub use error::FsckError;

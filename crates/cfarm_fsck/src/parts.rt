@@ -2,10 +2,10 @@
 
 ghost use Rattle.std.specs.Prelude.{◌≡◌, IfOk};
 ghost use Rattle.paxos_core_world.specs.World.{nodes_of};
-ghost use Rattle.farm_nodes_seated.specs.Kept.{kept_of};
+ghost use Rattle.farm_nodes_function_rooms.specs.Kept.{kept_of};
 
 use lang_base::NoMemory;
-use paxos_core::Kept;
+use paxos_core_world::kept::Kept;
 use std::alloc::Global;
 
 /// What a node has kept of the room.

@@ -7,11 +7,11 @@ ghost use Rattle.cfarm_fsck.specs.Telling.{folder_lines, four_lines, journal_lin
 
 use crate::error::FsckError;
 use crate::parts::room_parts;
-use acceptor_log::Record;
+use acceptor_log_form::Record;
 use cfarm_fsck_lines::{node_line, room_rest};
 use cfarm_output::{print_all, print_whole};
 use lang_base::{Named, NoMemory};
-use paxos_core::Kept;
+use paxos_core_world::kept::Kept;
 use rtl_language::Function;
 use std::alloc::Global;
 use std::io::Write;

@@ -4,7 +4,8 @@ ghost use Rattle.std.specs.Prelude.{◌≡◌, ◌&&◌, [], false, string_bytes
 
 use cfarm_explaining::explanation;
 use cfarm_output::Paced;
-use cfarm_runs::{CommandError, TextError, sentence_of};
+use cfarm_runs::{CommandError, sentence_of};
+use c_texts::TextError;
 use lang_base::Shown;
 use std::alloc::Global;
 use std::io::Write;

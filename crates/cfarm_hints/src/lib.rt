@@ -5,9 +5,5 @@
 mod differing;
 mod hints;
 
-pub use cfarm_runs::{
-    Closing, CommandError, PlacedError, TextError, check_text, exec, interpret, status_of,
-    status_where,
-};
 pub use differing::difference_of;
 pub use hints::{explained, is_amid, of_depth, of_limit, of_text};

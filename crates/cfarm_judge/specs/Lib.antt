@@ -5,4 +5,3 @@ pub mod Passes
 pub mod Passing
 pub mod Told
 pub mod Under
-pub use Rattle.bundle_offers.specs.declared.fault.OfferFault

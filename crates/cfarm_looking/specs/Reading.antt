@@ -1,7 +1,7 @@
 -- What `verify` reads of its files.
 use Rattle.std.specs.Prelude.{◌≡◌, ℕ, List, Option, Result, Ok, Err}
 use Rattle.cfarm_files.specs.Reading.{IsKnownAs}
-use Rattle.cfarm_verify.specs.Found.{AreSpelled}
+use Rattle.cfarm_verify_reading.specs.Found.{AreSpelled}
 use Rattle.cfarm_files.specs.declared.fault.FileFault.{FileFault}
 use Rattle.cfarm_looking.specs.declared.verifying.Read.{Read}
 use Rattle.cfarm_looking.specs.declared.verifying.Read.TheVariants.{NoProgram, NoBundle, Both}

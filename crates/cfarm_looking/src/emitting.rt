@@ -2,7 +2,8 @@ ghost use Rattle.std.specs.Prelude.{◌≤◌};
 ghost use Rattle.cfarm_looking.specs.Emitting.{Formed};
 ghost use Rattle.cfarm_telling.specs.Reading.{Says};
 
-use cfarm_emit::{Emitted, emit};
+use cfarm_emitted::Emitted;
+use cfarm_emit::emit;
 use cfarm_output::{ErrorLines, Paced};
 use cfarm_telling::tell;
 use std::alloc::Global;

@@ -1,5 +1,5 @@
 ghost use Rattle.std.specs.Prelude.{◌≤◌};
-ghost use Rattle.cfarm_verify.specs.Found.{AreSpelled, IsPrepared};
+ghost use Rattle.cfarm_verify_reading.specs.Found.{AreSpelled, IsPrepared};
 ghost use Rattle.cfarm_looking.specs.Reading.{AreRead, IsReadWith};
 ghost use Rattle.cfarm_looking.specs.Verifying.{Proven, Verified};
 ghost use Rattle.cfarm_telling.specs.Reading.{Says};
@@ -7,7 +7,8 @@ ghost use Rattle.cfarm_telling.specs.Reading.{Says};
 use cfarm_files::{FileFault, Files};
 use cfarm_output::{ErrorLines, Paced};
 use cfarm_telling::{tell, tell_unread};
-use cfarm_verify::{Forms, VerifyLine, prepared, read_forms, verify};
+use cfarm_verify_reading::{Forms, prepared, read_forms};
+use cfarm_verify::{VerifyLine, verify};
 use farm_nodes_source::{Source, SourceFault};
 use std::alloc::Global;
 use std::io::Write;

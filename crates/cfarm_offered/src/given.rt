@@ -4,7 +4,9 @@ use crate::fault::GivenFault;
 use lang_base::{Language, Pass};
 use linearize_check::Linearize;
 use offers::PartsOf;
-use rooms_numbered::{Alloc, ConstProp, Cse};
+use alloc_check::Alloc;
+use constprop_check::ConstProp;
+use cse_check::Cse;
 
 /// An offer of a file. Its parts are there, where it can be used, until they are proposed.
 #[derive(Drop)]

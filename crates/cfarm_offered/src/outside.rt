@@ -7,7 +7,9 @@ use farm_nodes_passes::Oracles;
 use lang_base::NoMemory;
 use linearize_check::Order;
 use rand_pcg::Pcg32;
-use rooms_numbered::{EquationLists, FactLists, PlaceLists};
+use cse_check::EquationLists;
+use constprop_check::FactLists;
+use alloc_check_verdict::EquationLists as PlaceLists;
 use std::alloc::Global;
 
 /// A node's own optimisers, and the offers that it is given, where it is. No word is drawn for an offer that is given.

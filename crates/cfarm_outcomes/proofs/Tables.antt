@@ -7,12 +7,12 @@ use Rattle.lang_base.specs.declared.shown.Shown.{Shown}
 use Rattle.lang_base.specs.declared.shown.Shown.TheVariants as S
 use Rattle.lang_parts.specs.declared.error.RunError.TheVariants as R
 use Rattle.c_texts.specs.Refusals.{number_of}
-use Rattle.cfarm_hints.specs.TextStatuses.{status_of_end, status_of_error, status_of_shown, status_where}
-use Rattle.cfarm_hints.specs.CommandError.{CommandError}
-use Rattle.cfarm_hints.specs.CommandError.TheVariants as C
-use Rattle.cfarm_hints.specs.ExecStatuses as exec
-use Rattle.cfarm_hints.specs.ExecError.{ExecError}
-use Rattle.cfarm_hints.specs.ExecError.TheVariants as X
+use Rattle.cfarm_runs.specs.TextStatuses.{status_of_end, status_of_error, status_of_shown, status_where}
+use Rattle.cfarm_runs.specs.declared.command_error.CommandError.{CommandError}
+use Rattle.cfarm_runs.specs.declared.command_error.CommandError.TheVariants as C
+use Rattle.cfarm_runs.specs.ExecStatuses as exec
+use Rattle.cfarm_runs.specs.declared.exec_error.ExecError.{ExecError}
+use Rattle.cfarm_runs.specs.declared.exec_error.ExecError.TheVariants as X
 use Rattle.cfarm_commands.specs.SettleStatuses as settle
 use Rattle.cfarm_schedules.specs.Lines as schedule
 use Rattle.cfarm_schedules.specs.declared.error.ScheduleError.{ScheduleError}

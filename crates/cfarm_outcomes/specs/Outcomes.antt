@@ -1,16 +1,16 @@
 -- What each command comes to, on the bytes of its file: what it wrote, and what it answers.
 use Rattle.std.specs.Prelude.{◌≡◌, ◌⊎◌, ℕ, ℤ, List, Option}
 use Rattle.lang_base.specs.declared.shown.Shown.{Shown}
-use Rattle.cfarm_hints.specs.CommandError.{CommandError}
-use Rattle.cfarm_hints.specs.Closings.{closing_line}
-use Rattle.cfarm_hints.specs.TextLines.{error_line, gcc_line}
-use Rattle.cfarm_hints.specs.TextStatuses.{status_of_error, status_of_shown, status_where}
-use Rattle.cfarm_hints.specs.TextTold as text
-use Rattle.cfarm_hints.specs.ExecError.{ExecError}
+use Rattle.cfarm_runs.specs.declared.command_error.CommandError.{CommandError}
+use Rattle.cfarm_runs.specs.Closings.{closing_line}
+use Rattle.cfarm_runs.specs.TextLines.{error_line, gcc_line}
+use Rattle.cfarm_runs.specs.TextStatuses.{status_of_error, status_of_shown, status_where}
+use Rattle.cfarm_runs.specs.TextTold as text
+use Rattle.cfarm_runs.specs.declared.exec_error.ExecError.{ExecError}
 use Rattle.cfarm_commands.specs.declared.settle_error.SettleError.{SettleError}
-use Rattle.cfarm_hints.specs.ExecStatuses as exec_status
-use Rattle.cfarm_hints.specs.ExecTold as exec
-use Rattle.cfarm_hints.specs.ExecLines.{exec_line}
+use Rattle.cfarm_runs.specs.ExecStatuses as exec_status
+use Rattle.cfarm_runs.specs.ExecTold as exec
+use Rattle.cfarm_runs.specs.ExecLines.{exec_line}
 use Rattle.cfarm_commands.specs.SettleLines.{settle_line}
 use Rattle.cfarm_commands.specs.LaidOut.{Seats}
 use Rattle.cfarm_commands.specs.Settled.{HaveSettled}

@@ -2,7 +2,7 @@
 use Rattle.std.specs.Prelude.{ℕ, Bool, List, Option}
 use Rattle.std.specs.Borrow.{MutBor}
 use denote.Triple.Both.{Both}
-use Rattle.cfarm_hints.specs.CommandError.{CommandError}
+use Rattle.cfarm_runs.specs.declared.command_error.CommandError.{CommandError}
 use Rattle.cfarm_command_parts.specs.declared.task.Format.{Format}
 use Rattle.cfarm_command_parts.specs.declared.task.Task.TheVariants.{Check}
 use Rattle.cfarm_output.specs.Errors.{ErrorsHeld}

@@ -8,10 +8,8 @@ ghost use Rattle.cfarm_outcomes.specs.Saying.{Checks, Explains, IsFaultTold};
 
 use cfarm_command_parts::Format;
 use cfarm_commands::settle;
-use cfarm_hints::{
-    Closing, CommandError, PlacedError, check_text, exec, interpret, is_amid, of_depth, of_limit,
-    of_text, status_of, status_where,
-};
+use cfarm_runs::{Closing, CommandError, PlacedError, check_text, exec, interpret, status_of, status_where};
+use cfarm_hints::{is_amid, of_depth, of_limit, of_text};
 use cfarm_output::{ErrorLines, Paced};
 use cfarm_telling::{tell, tell_among};
 use std::alloc::Global;

@@ -2,9 +2,9 @@
 use Rattle.std.specs.Prelude.{◌≡◌, ◌⊎◌, List, Option, None, Some, ℕ, false, true, option_copied}
 use Rattle.cfarm_files.specs.Placing.{Keeps}
 use Rattle.cfarm_files.specs.declared.fault.FileFault.TheVariants.{Refused}
-use Rattle.cfarm_build_files.specs.Answers as building
-use Rattle.cfarm_build_files.specs.BuildingError.{BuildingError}
-use Rattle.cfarm_build_files.specs.Changed.{Changed}
+use Rattle.cfarm_build_folder.specs.Answers as building
+use Rattle.cfarm_build_folder.specs.declared.error.BuildingError.{BuildingError}
+use Rattle.cfarm_build_folder.specs.Changed.{Changed}
 use Rattle.cfarm_build_files.specs.Done.{HasBuilt, IsNotBuilt}
 use Rattle.cfarm_build_files.specs.declared.farm.Farm as farms
 use Rattle.cfarm_options.specs.Names.{is_given_taken, is_taken}

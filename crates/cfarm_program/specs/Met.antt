@@ -1,7 +1,7 @@
 -- Whether the quorums meet that a task asks for. A build and `fsck` alone ask for any.
 use Rattle.std.specs.Prelude.{◌≡◌}
 use Rattle.cfarm_build_files.specs.Compiled.{quorums_of}
-use Rattle.cfarm_build_files.specs.Quorum.{AreQuorums}
+use Rattle.paxos_core_world.specs.Quorum.{AreQuorums}
 use Rattle.cfarm_folder.specs.Asked.{asked_quorums}
 use Rattle.cfarm_options.specs.Sizes.{sizes_of}
 use Rattle.cfarm_options.specs.declared.options.AskedSizes.{AskedSizes}

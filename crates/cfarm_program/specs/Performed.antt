@@ -7,7 +7,7 @@ use Rattle.cfarm_files.specs.Placing.{Keeps}
 use Rattle.cfarm_files.specs.Reading.{IsKnownAs}
 use Rattle.cfarm_files.specs.declared.fault.FileFault.{FileFault}
 use Rattle.cfarm_files.specs.declared.files.Files as filing
-use Rattle.cfarm_build_files.specs.Changed.{Changed}
+use Rattle.cfarm_build_folder.specs.Changed.{Changed}
 use Rattle.cfarm_build_files.specs.declared.farm.Farm as farms
 use Rattle.cfarm_options.specs.Sizes.{sizes_line}
 use Rattle.cfarm_options.specs.declared.options.AskedSizes.{AskedSizes}

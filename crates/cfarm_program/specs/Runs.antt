@@ -7,7 +7,7 @@ use Rattle.clap.specs.declared.error.kind.ErrorKind.TheVariants.{DisplayHelp, Di
 use Rattle.cfarm_output.specs.Errors.{ErrorsHeld, HasFailed}
 use Rattle.cfarm_output.specs.declared.errors.ErrorLines as lines
 use Rattle.cfarm_output.specs.declared.paced.Paced.{Paced}
-use Rattle.cfarm_build_files.specs.Changed.{Changed}
+use Rattle.cfarm_build_folder.specs.Changed.{Changed}
 use Rattle.cfarm_build_files.specs.declared.farm.Farm as farms
 use Rattle.cfarm_command_parts.specs.declared.choices.Choices.{Choices}
 use Rattle.cfarm_command_parts.specs.declared.task.Task.{Task}

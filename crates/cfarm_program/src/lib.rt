@@ -20,5 +20,4 @@ mod performing;
 mod program;
 mod running;
 
-pub use cfarm_telling::tell_no_memory;
 pub use program::{run, tell_no_text};

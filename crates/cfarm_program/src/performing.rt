@@ -2,14 +2,15 @@
 
 ghost use Rattle.std.specs.Prelude.{◌≡◌, ◌≤◌, false, true, IfSome, IsNone, Some, option_copied};
 ghost use Rattle.cfarm_build_files.specs.Compiled.{quorums_of};
-ghost use Rattle.cfarm_build_files.specs.Quorum.{AreQuorums};
+ghost use Rattle.paxos_core_world.specs.Quorum.{AreQuorums};
 ghost use Rattle.cfarm_folder.specs.Asked.{asked_quorums};
 ghost use Rattle.cfarm_options.specs.Names.{is_given_taken, is_taken};
 ghost use Rattle.cfarm_program.specs.Met.{AreMet};
 ghost use Rattle.cfarm_program.specs.Performed.{Built, BuiltApart, Does, Looks};
 
-use cfarm_build_files::{Farm, build_text, of_build, quorums_of};
-use cfarm_command_line::{FsckOptions, Task};
+use cfarm_build_files::{Farm, build_text, quorums_of};
+use cfarm_build_folder::of_build;
+use cfarm_command_parts::{FsckOptions, Task};
 use cfarm_files::{FileFault, Files};
 use cfarm_folder::{asked_quorums, look_through};
 use cfarm_looking::{emit_form, judge_offer, list_records, show_text, verify_files};

@@ -7,7 +7,8 @@ ghost use Rattle.cfarm_program.specs.Runs.{IsHelp, IsHelped, IsMistake, Runs, Te
 
 use crate::running::run_task;
 use cfarm_build_files::Farm;
-use cfarm_command_line::{asked_for, offered};
+use cfarm_command_line::asked_for;
+use cfarm_command_parts::offered;
 use cfarm_files::Files;
 use cfarm_meter::Meter;
 use cfarm_output::{ErrorLines, Paced, Unwritten};

@@ -6,7 +6,7 @@ ghost use Rattle.cfarm_program.specs.Performed.{Reads, RunsTask};
 
 use crate::performing::perform;
 use cfarm_build_files::{Farm, quorums_of};
-use cfarm_command_line::Task;
+use cfarm_command_parts::Task;
 use cfarm_files::Files;
 use cfarm_folder::asked_quorums;
 use cfarm_meter::Meter;

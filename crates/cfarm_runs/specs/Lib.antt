@@ -7,9 +7,3 @@ pub mod Sentences
 pub mod TextLines
 pub mod TextStatuses
 pub mod TextTold
-pub use Rattle.c_checker_rules.specs.Units
-pub use Rattle.c_program.specs.Trees
-pub use Rattle.lang_parts.specs.Written
-pub use Rattle.lang.specs.Form
-pub use Rattle.c_program.specs.Meaning
-pub use Rattle.linear_language.specs.Meaning as LinearMeaning

@@ -4,7 +4,7 @@ ghost use Rattle.c_checker_rules.specs.Checked.{program_tree};
 ghost use Rattle.cfarm_runs.specs.Counts.{counts_line};
 ghost use Rattle.cfarm_runs.specs.TextTold.{HasCounted, IsTold, Printed};
 
-use crate::accept;
+use c_texts::accept;
 use crate::command_error::CommandError;
 use c_checker_rules::CProgram;
 use cfarm_output::print_whole;

@@ -1,7 +1,7 @@
 ghost use Rattle.std.specs.Prelude.{◌≡◌};
 ghost use Rattle.cfarm_runs.specs.TextStatuses.{status_of_error};
 
-use crate::TextError;
+use c_texts::TextError;
 use lang_parts::RunError;
 use std::fmt;
 

@@ -1,7 +1,7 @@
 ghost use Rattle.std.specs.Prelude.{◌≡◌, false, IfOk, IfErr, OnOk};
 ghost use Rattle.cfarm_runs.specs.TextTold.{HasRun, IsTold, Ran};
 
-use crate::accept;
+use c_texts::accept;
 use crate::command_error::CommandError;
 use c_meaning::run;
 use cfarm_output::Paced;

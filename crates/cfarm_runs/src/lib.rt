@@ -13,13 +13,11 @@ mod placed_error;
 mod reading;
 mod sentences;
 
-pub use c_texts::{TextError, accept};
 pub use checking::check_text;
 pub use closing::{Closing, status_of, status_where};
 pub use command_error::CommandError;
 pub use exec_error::ExecError;
 pub use executing::exec;
 pub use interpreting::interpret;
-pub use lang_parts::RunError;
 pub use placed_error::PlacedError;
 pub use sentences::sentence_of;

@@ -1,7 +1,7 @@
 ghost use Rattle.std.specs.Prelude.{◌≡◌};
 ghost use Rattle.cfarm_runs.specs.Sentences.{check_sentence, lex_sentence, read_sentence, sentence_of};
 
-use crate::TextError;
+use c_texts::TextError;
 use c_checker_rules::CheckError;
 use c_lexer::LexError;
 use c_reader::ReadError;

@@ -7,9 +7,7 @@ mod playing;
 mod room;
 mod told;
 
-pub use cfarm_schedules_lines::{Command, command_of, quorums_of};
 pub use error::ScheduleError;
-pub use paxos_core::{Msg, Quorums, agreement};
 pub use playing::{closing_of, next_line, obey, simulate};
 pub use room::Room;
 pub use told::Told;

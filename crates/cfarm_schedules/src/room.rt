@@ -7,7 +7,8 @@ ghost use Rattle.cfarm_schedules.specs.Rooms.{after_call_of, learning, node_at, 
 
 use crate::told::Told;
 use lang_base::NoMemory;
-use paxos_core::{Msg, Node, Quorums, Vote};
+use paxos_core_world::{msg::Msg, quorum::Quorums, vote::Vote};
+use paxos_core::Node;
 use std::alloc::Global;
 use std::marker::Model;
 

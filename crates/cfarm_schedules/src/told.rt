@@ -1,4 +1,4 @@
-use paxos_core::Msg;
+use paxos_core_world::msg::Msg;
 use std::fmt;
 
 /// What is printed of one call of a node.

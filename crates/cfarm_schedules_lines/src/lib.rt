@@ -9,5 +9,4 @@ mod reading;
 pub use command::Command;
 pub use heads::quorums_of;
 pub use parts::split_at_byte;
-pub use paxos_core_world::quorum::Quorums;
 pub use reading::command_of;

@@ -11,7 +11,8 @@ use lang_base::{Language, NoMemory, Oracle, Pass, PassError};
 use offers::Offer;
 use rand_core::utils::NextWord;
 use rand_pcg::Pcg32;
-use rooms::{Put, Seat};
+use rooms_cells::Put;
+use rooms::Seat;
 use std::alloc::Global;
 use std::sync::Arc;
 

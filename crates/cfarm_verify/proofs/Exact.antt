@@ -20,11 +20,11 @@ use Rattle.linear_language.specs.Spelling.{spelling}
 use Rattle.farm_nodes_source.specs.Refused.{IsOnlyTooLarge}
 use Rattle.farm_nodes_source.specs.declared.fault.SourceFault.{SourceFault}
 use Rattle.farm_nodes_source.specs.declared.fault.SourceFault.TheVariants as source
-use Rattle.cfarm_verify_comparing.specs.Offers.{Offers}
-use Rattle.cfarm_verify_comparing.specs.Baselines.{AreAccepted}
-use Rattle.cfarm_verify_comparing.specs.Offered.{AllGoOn, linked_offers}
-use Rattle.cfarm_verify_comparing.specs.Texts.{HasNoBundle, HasOneBundle, IsBundleOf, OffersFit}
-use Rattle.cfarm_verify_comparing.proofs.Standings.{as_many, ends_names, no_fault, they_stand}
+use Rattle.chains.specs.declared.offering.Offers.{Offers}
+use Rattle.chains.specs.Accepted.{AreAccepted}
+use Rattle.chains.specs.Offered.{AllGoOn, linked_offers}
+use Rattle.bundle_reading.specs.Texts.{HasNoBundle, HasOneBundle, IsBundleOf, OffersFit}
+use Rattle.bundle_offers.proofs.Standings.{as_many, ends_names, no_fault, they_stand}
 use Rattle.cfarm_verify.specs.Checked.{AreChecked, IsUnchecked}
 use Rattle.cfarm_verify_comparing.specs.Compared.{IsFirstOther}
 use Rattle.cfarm_verify_reading.specs.Spelled.{IsNoProgram, IsSpelled}

@@ -13,9 +13,9 @@ use Rattle.rtlgen_definition.specs.Gen.{gen}
 use Rattle.rtl_language.specs.Function as rtl
 use Rattle.linear_language.specs.Function as linear
 use Rattle.linear_language.specs.Meaning.{run}
-use Rattle.cfarm_verify_comparing.specs.Offers.{Offers}
-use Rattle.cfarm_verify_comparing.specs.Texts.{IsBundleOf}
-use Rattle.cfarm_verify_comparing.proofs.Standings.{accepted, all_accepted, go_on}
+use Rattle.chains.specs.declared.offering.Offers.{Offers}
+use Rattle.bundle_reading.specs.Texts.{IsBundleOf}
+use Rattle.bundle_offers.proofs.Standings.{accepted, all_accepted, go_on}
 use Rattle.cfarm_verify.specs.Checked.{AreChecked, IsUnchecked}
 use Rattle.cfarm_verify_reading.specs.Spelled.{IsSpelled}
 use Rattle.cfarm_verify.specs.Told.{IsTold, IsVerified, rtl_of}

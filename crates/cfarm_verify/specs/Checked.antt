@@ -7,10 +7,10 @@ use Rattle.lang_base.specs.declared.program.Program.{Program}
 use Rattle.rtl_language.specs.Function as rtl
 use Rattle.linear_language.specs.Function as linear
 use Rattle.linker.specs.Chains.{names_of}
-use Rattle.cfarm_verify_comparing.specs.Offers.{Offers}
-use Rattle.cfarm_verify_comparing.specs.Offered.{linked_offers}
-use Rattle.cfarm_verify_comparing.specs.Standing.{AllStand, IsFirstFault}
-use Rattle.cfarm_verify_comparing.specs.OfferFault.{OfferFault}
+use Rattle.chains.specs.declared.offering.Offers.{Offers}
+use Rattle.chains.specs.Offered.{linked_offers}
+use Rattle.bundle_offers.specs.Standing.{AllStand, IsFirstFault}
+use Rattle.bundle_offers.specs.declared.fault.OfferFault.{OfferFault}
 use Rattle.cfarm_verify_comparing.specs.Compared.{IsFirstOther}
 use Rattle.cfarm_verify.specs.declared.error.VerifyError.{VerifyError}
 use Rattle.cfarm_verify.specs.declared.error.VerifyError.TheVariants.{NoMemory, OtherSource, ProgramNames, BundleNames, Offer, OtherFunction, OtherGlobals}

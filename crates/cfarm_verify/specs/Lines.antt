@@ -10,9 +10,9 @@ use Rattle.lang_base.specs.declared.errors.FormError.TheVariants as form
 use Rattle.cfarm_output.specs.Lines.{form_line}
 use Rattle.farm_nodes_source.specs.declared.fault.SourceFault.{SourceFault}
 use Rattle.farm_nodes_source.specs.Told as source
-use Rattle.cfarm_verify_comparing.specs.Standing as standing
-use Rattle.cfarm_verify_comparing.specs.OfferFault.{OfferFault}
-use Rattle.cfarm_verify_comparing.specs.OfferFault.TheVariants as offer
+use Rattle.bundle_offers.specs.Standing as standing
+use Rattle.bundle_offers.specs.declared.fault.OfferFault.{OfferFault}
+use Rattle.bundle_offers.specs.declared.fault.OfferFault.TheVariants as offer
 use Rattle.cfarm_verify.specs.declared.error.VerifyError.{VerifyError}
 use Rattle.cfarm_verify.specs.declared.error.VerifyError.TheVariants as verify
 

@@ -19,11 +19,11 @@ use Rattle.farm_nodes_source.specs.Refused.{IsUnprepared}
 use Rattle.farm_nodes_source.specs.declared.fault.SourceFault.{SourceFault}
 use Rattle.farm_nodes_source.specs.declared.fault.SourceFault.TheVariants as source
 use Rattle.cfarm_output.specs.Begun.{IsBegun}
-use Rattle.cfarm_verify_comparing.specs.Offers.{Offers}
-use Rattle.cfarm_verify_comparing.specs.Baselines.{AreAccepted}
-use Rattle.cfarm_verify_comparing.specs.Offered.{AllGoOn, linked_offers}
-use Rattle.cfarm_verify_comparing.specs.Texts.{HasNoBundle, IsBundleOf}
-use Rattle.cfarm_verify_comparing.specs.OfferFault.TheVariants as offer
+use Rattle.chains.specs.declared.offering.Offers.{Offers}
+use Rattle.chains.specs.Accepted.{AreAccepted}
+use Rattle.chains.specs.Offered.{AllGoOn, linked_offers}
+use Rattle.bundle_reading.specs.Texts.{HasNoBundle, IsBundleOf}
+use Rattle.bundle_offers.specs.declared.fault.OfferFault.TheVariants as offer
 use Rattle.cfarm_verify.specs.Checked.{IsUnchecked}
 use Rattle.cfarm_verify.specs.Lines.{verified_line}
 use Rattle.cfarm_verify_reading.specs.Spelled.{IsNoProgram, IsSpelled}

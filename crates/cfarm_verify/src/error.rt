@@ -3,7 +3,7 @@
 ghost use Rattle.std.specs.Prelude.{◌≡◌};
 ghost use Rattle.cfarm_verify.specs.Lines.{fault_status_of, form_status_of, source_status_of, status_of};
 
-use cfarm_verify_comparing::OfferFault;
+use bundle_offers::OfferFault;
 use farm_nodes_source::SourceFault;
 use lang_base::FormError;
 

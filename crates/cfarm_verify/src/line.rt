@@ -4,7 +4,7 @@ ghost use Rattle.std.specs.Prelude.{◌≡◌};
 
 use crate::error::VerifyError;
 use cfarm_output::FormLine;
-use cfarm_verify_comparing::OfferFault;
+use bundle_offers::OfferFault;
 use lang_base::{Fault, FormError};
 use std::fmt;
 

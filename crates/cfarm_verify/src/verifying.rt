@@ -3,9 +3,9 @@
 ghost use Rattle.std.specs.Prelude.{◌≡◌, ℕ, OnOk, IfOk, IfErr};
 ghost use Rattle.std.specs.String.{string_bytes};
 ghost use Rattle.hex.specs.Hex.{encode_lower};
-ghost use Rattle.cfarm_verify_comparing.specs.Read.{offers_in};
-ghost use Rattle.cfarm_verify_comparing.specs.Texts.{IsBundleOf};
-ghost use Rattle.cfarm_verify_comparing.specs.Standing.{AreAlone};
+ghost use Rattle.bundle_reading.specs.Read.{offers_in};
+ghost use Rattle.bundle_reading.specs.Texts.{IsBundleOf};
+ghost use Rattle.bundle_offers.specs.Standing.{AreAlone};
 ghost use Rattle.sha2.specs.Sha256.{sha256};
 ghost use Rattle.cfarm_verify_reading.specs.Found.{AreSpelled, IsPrepared, IsSourceOf};
 ghost use Rattle.cfarm_verify.specs.Answered.{IsAnswer, IsLineFor};
@@ -16,8 +16,11 @@ ghost use Rattle.cfarm_verify.specs.Told.{HasVerified, IsTold, IsVerified, IsWan
 use crate::checking::checked;
 use crate::error::VerifyError;
 use cfarm_output::print_whole;
-use cfarm_verify_comparing::{Four, OfferFault, one_bundle, put_fours_away};
-use cfarm_verify_reading::{Forms, JudgedBundle};
+use bundle_reading::{Four, one_bundle};
+use bundle_offers::OfferFault;
+use cfarm_verify_comparing::put_fours_away;
+use cfarm_verify_reading::Forms;
+use bundle_offers::JudgedBundle;
 use farm_nodes_source::{Source, SourceFault};
 use lang::one_program;
 use lang_base::{Program, keeps_composes};

@@ -17,10 +17,10 @@ use Rattle.constprop_check_rules.specs.Rules.{IsPropagated}
 use Rattle.cse_check_rules.specs.Rules.{IsEliminated}
 use Rattle.alloc_check_filled.specs.Allocated.{IsAllocated}
 use Rattle.linearize_check_proof.specs.Rules.{IsLaidOut}
-use Rattle.bundle_offers.specs.Offers.{Offers}
-use Rattle.bundle_offers.specs.Offered.{ends_of, linked_offers}
-use Rattle.bundle_offers.specs.Four.{Four}
-use Rattle.bundle_offers.specs.Read.{offers_in, offers_of}
+use Rattle.chains.specs.declared.offering.Offers.{Offers}
+use Rattle.chains.specs.Offered.{ends_of, linked_offers}
+use Rattle.bundle_reading.specs.declared.four.Four.{Four}
+use Rattle.bundle_reading.specs.Read.{offers_in, offers_of}
 use Rattle.bundle_offers.specs.Standing.{AllStand, Stand}
 use Rattle.cfarm_verify_comparing.specs.Ranges.{AreInRange}
 

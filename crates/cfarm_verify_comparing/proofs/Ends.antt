@@ -3,10 +3,10 @@ use Rattle.std.proofs.Common.{◌≡◌, ℕ, zero, suc, ◌<◌, ◌≤◌, Lis
 use Rattle.lang_base.specs.declared.program.Named.{Named}
 use Rattle.rtl_language.specs.Function as rtl
 use Rattle.linear_language.specs.Function as linear
-use Rattle.bundle_offers.specs.Chains.{names_of}
-use Rattle.bundle_offers.specs.Offered.{ends_of}
-use Rattle.bundle_offers.specs.Four.{Four}
-use Rattle.bundle_offers.specs.Read.{offers_in}
+use Rattle.linker.specs.Chains.{names_of}
+use Rattle.chains.specs.Offered.{ends_of}
+use Rattle.bundle_reading.specs.declared.four.Four.{Four}
+use Rattle.bundle_reading.specs.Read.{offers_in}
 
 -- as many as the functions, under their names
 pub ends_many : (functions : List (Named rtl.FunctionData)) (fours : List Four) → length fours ≡ length functions → length (ends_of functions (offers_in fours)) ≡ length functions

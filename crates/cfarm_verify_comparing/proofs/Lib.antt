@@ -1,4 +1,3 @@
 pub mod Between
 pub mod Compared
 pub mod Ends
-pub use Rattle.bundle_offers.proofs.Standings

@@ -1,10 +1,2 @@
 pub mod Compared
 pub mod Ranges
-pub use Rattle.bundle_offers.specs.Standing
-pub use Rattle.bundle_offers.specs.declared.fault.OfferFault
-pub use Rattle.bundle_offers.specs.Read
-pub use Rattle.bundle_offers.specs.Texts
-pub use Rattle.bundle_offers.specs.Four
-pub use Rattle.bundle_offers.specs.Baselines
-pub use Rattle.bundle_offers.specs.Offered
-pub use Rattle.bundle_offers.specs.Offers

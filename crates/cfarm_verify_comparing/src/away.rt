@@ -1,6 +1,6 @@
 //! The memory of offers, which several threads give back.
 
-use bundle_offers::Four;
+use bundle_reading::Four;
 use std::alloc::Global;
 use std::thread::{Threads, join};
 

@@ -1,12 +1,12 @@
 //! Whether two programs are one.
 
 ghost use Rattle.std.specs.Prelude.{◌≡◌, ◌↔◌, IsTrue, length};
-ghost use Rattle.bundle_offers.specs.Chains.{names_of};
-ghost use Rattle.bundle_offers.specs.Offered.{ends_of};
-ghost use Rattle.bundle_offers.specs.Read.{offers_in};
+ghost use Rattle.linker.specs.Chains.{names_of};
+ghost use Rattle.chains.specs.Offered.{ends_of};
+ghost use Rattle.bundle_reading.specs.Read.{offers_in};
 ghost use Rattle.cfarm_verify_comparing.specs.Compared.{TellsFirstOther};
 
-use bundle_offers::Four;
+use bundle_reading::Four;
 use lang_base::{Global, Named};
 use linear_language::Function;
 

@@ -7,6 +7,5 @@ mod comparing;
 mod keeping;
 
 pub use away::put_fours_away;
-pub use bundle_offers::{Four, OfferFault, first_fault, judge_all, one_bundle};
 pub use comparing::{first_other, same_globals, same_names};
 pub use keeping::linked_keeps;

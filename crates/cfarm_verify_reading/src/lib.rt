@@ -7,7 +7,6 @@ mod preparing;
 mod reading;
 mod translating;
 
-pub use bundle_offers::JudgedBundle;
 pub use forms::Forms;
 pub use preparing::prepared;
 pub use reading::read_forms;

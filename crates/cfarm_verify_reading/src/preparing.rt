@@ -8,8 +8,8 @@ ghost use Rattle.farm_nodes_source.specs.Refused.{IsOnlyTooLarge, IsUnprepared};
 ghost use Rattle.sha2.specs.Sha256.{sha256};
 ghost use Rattle.cfarm_verify_reading.specs.Found.{IsBegunOf, IsPrepared, with_digest};
 
-use crate::translating::made_meanwhile;
-use cfarm_verify_text::accept_beside;
+use crate::translating::made_beside;
+use c_texts::accept;
 use cminor_program_ranges::accepted_has_names;
 use farm_nodes_source::{Begun, Source, SourceFault};
 use lang_base::NoMemory;
@@ -28,18 +28,18 @@ fn shared<T: Drop>(alloc: Global, value: T) -> Result<Arc<T>, NoMemory>
     }
 }
 
-/// The program of a text, made ready for the first pass: the parts of the text and then the functions side by side.
+/// The program of a text, made ready for the first pass: its functions side by side.
 fn made_ready<R: Threads + Sync>(rt: &R, alloc: Global, text: &[u8]) -> Result<Begun, SourceFault>
     ensures begun { IfOk result (IsBegunOf text.now) }
     ensures refused { IfErr result (IsUnprepared text.now) }
     ensures only { (u : UnitTree) → IsAccepted text.now u → IfErr result (IsOnlyTooLarge u) }
 {
-    let (program, tree) = match accept_beside(rt, alloc, text) {
-        Ok(both) => both,
+    let program = match accept(alloc, text) {
+        Ok(program) => program,
         Err(fault) => return Err(SourceFault::Text(fault)),
     };
     accepted_has_names();
-    let made = match made_meanwhile(rt, alloc, &program, tree) {
+    let made = match made_beside(rt, alloc, &program) {
         Ok(made) => made,
         Err(fault) => return Err(fault),
     };

@@ -1,7 +1,7 @@
 ghost use Rattle.std.specs.Prelude.{◌≡◌, ◌≢◌, ◌<◌, IfOk, IfErr};
-ghost use Rattle.bundle_offers.specs.Read.{offers_in};
+ghost use Rattle.bundle_reading.specs.Read.{offers_in};
 ghost use Rattle.bundle_offers.specs.Standing.{AreAlone};
-ghost use Rattle.bundle_offers.specs.Texts.{HasNoBundle, IsBundleOf};
+ghost use Rattle.bundle_reading.specs.Texts.{HasNoBundle, IsBundleOf};
 ghost use Rattle.sha2.specs.Sha256.{sha256};
 ghost use Rattle.cfarm_verify_reading.specs.Found.{AreSpelled};
 ghost use Rattle.cfarm_verify_reading.specs.Spelled.{IsNoProgram, IsSpelled};

@@ -13,7 +13,6 @@ ghost use Rattle.rtlgen_definition.specs.Gen.{gen};
 ghost use Rattle.farm_nodes_source.specs.Refused.{IsNamed, IsUntranslated};
 
 use c_checker_rules::CProgram;
-use c_syntax::Unit;
 use cfarm_verify_lowering::translated;
 use cminor::lower;
 use cminor_program_ranges::same_head_fits;
@@ -22,7 +21,7 @@ use lang_base::{NoMemory, Program, keeps_composes};
 use rtl_language::{Function, Rtl};
 use rtlgen::{GenError, translate};
 use std::alloc::Global;
-use std::thread::{Threads, join};
+use std::thread::Threads;
 
 /// The fault of the function of this number, with its name.
 fn too_many_nodes(alloc: Global, program: &CProgram, function: usize) -> SourceFault
@@ -61,7 +60,7 @@ fn made_in_turn(alloc: Global, program: &CProgram) -> Result<Program<Function>, 
 }
 
 /// The same, the functions side by side. Where one cannot be made, all are made again in turn, which tells the first fault.
-fn made_beside<R: Threads + Sync>(
+pub(crate) fn made_beside<R: Threads + Sync>(
     rt: &R,
     alloc: Global,
     program: &CProgram,
@@ -76,31 +75,4 @@ fn made_beside<R: Threads + Sync>(
         Some(made) => Ok(made),
         None => made_in_turn(alloc, program),
     }
-}
-
-/// The same, while the memory of the text's tree is given back.
-pub(crate) fn made_meanwhile<R: Threads + Sync>(
-    rt: &R,
-    alloc: Global,
-    program: &CProgram,
-    tree: Unit,
-) -> Result<Program<Function>, SourceFault>
-    requires names { HaveNames (program_tree program.now) }
-    ensures same { IfOk result (λ made. made ≡ gen (low (program_tree program.now))) }
-    ensures keeps { IfOk result (λ made. Keeps (crun (program_tree program.now)) (rtl.run made)) }
-    ensures fits { IfOk result (IsProgram IsFunction) }
-    ensures refused { IfErr result (IsUntranslated (program_tree program.now)) }
-{
-    let (_done, made) = join(
-        rt,
-        || -> () { drop(tree) },
-        || -> Result<Program<Function>, SourceFault>
-            requires { HaveNames (program_tree program.now) }
-            ensures same { IfOk result (λ made. made ≡ gen (low (program_tree program.entry.now))) }
-            ensures keeps { IfOk result (λ made. Keeps (crun (program_tree program.entry.now)) (rtl.run made)) }
-            ensures fits { IfOk result (IsProgram IsFunction) }
-            ensures refused { IfErr result (IsUntranslated (program_tree program.entry.now)) }
-        { made_beside(rt, alloc, program) },
-    );
-    made
 }

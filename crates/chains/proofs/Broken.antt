@@ -9,7 +9,7 @@ use Rattle.linker.specs.Chains.{HasChain, IsChain, AllChained, Refusal}
 use Rattle.chains.specs.declared.offering.Offers.{Offers}
 use Rattle.chains.specs.Lent.{Chain, Named, LendsTo, AreBeside}
 use Rattle.chains.specs.Offered.{GoOnFrom}
-use Rattle.chains.specs.Refused.{IsFirstBroken, IsUnlinked}
+use Rattle.chains.specs.Unlinked.{IsFirstBroken, IsUnlinked}
 use Rattle.chains.proofs.Beside.{has_chain, goes_on, names_are}
 
 -- beside a name with offers none are missing

@@ -1,12 +1,4 @@
-pub mod Baselines
-pub mod Compiled
-pub mod Counted
-pub mod Offered
+pub mod Accepted
 pub mod Lent
-pub mod Refused
-pub use Rattle.rtlgen_definition.specs.Gen
-pub use Rattle.cminor_lowering.specs.Programs
-pub use Rattle.lang_base.specs.Keeps
-pub use Rattle.linker.specs.Chains
-pub use Rattle.linker.specs.Text
-pub use Rattle.linker.specs.Right
+pub mod Offered
+pub mod Unlinked

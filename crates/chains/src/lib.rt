@@ -1,17 +1,9 @@
-//! C programs compiled: four offers of each function, one for each pass, each on the output of the one before it, and
-//! all linked. The offers are the baselines', or those of optimisers that nobody trusts: what a pass does not accept, or
-//! is not offered, is replaced by its baseline.
+//! Four offers of each function of a program, one for each pass, each on the output of the one before it, and the program that they
+//! link. Who made them does not matter: each is an offer that its pass accepts.
 #![tactic(auto)]
 
-mod baselines;
-mod compiling;
-mod errors;
-mod makers;
+mod linking;
 mod offering;
 
-pub use baselines::ExactBaselines;
-pub use compiling::{all_offers, compile, link_offers};
-pub use errors::CompileError;
-pub use linker::{Alloc, Chain, EquationLists, why};
-pub use makers::Maker;
+pub use linking::link_offers;
 pub use offering::Offers;

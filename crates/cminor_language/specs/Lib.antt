@@ -1,12 +1,3 @@
 pub mod Results
 pub mod Same
 pub mod Comparing
-pub use Rattle.cminor_syntax.specs.Trees
-pub use Rattle.cminor_syntax.specs.Views
-pub use Rattle.cminor_syntax.specs.Fits
-pub use Rattle.cminor_syntax.specs.State
-pub use Rattle.cminor_syntax.specs.Evaluation
-pub use Rattle.cminor_syntax.specs.Meaning
-pub use Rattle.cminor_syntax.specs.Growth
-pub use Rattle.cminor_form.specs.Spelling
-pub use Rattle.lang_base.specs.Behaviour

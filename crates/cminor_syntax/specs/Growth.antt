@@ -1,9 +1,9 @@
 -- From one bound to the next the output of a program only grows, and an end or a fault stays.
 use Rattle.std.proofs.Common.{◌≡◌, ℕ, zero, suc, ◌+◌, ◌==◌, Bool, true, false, cond, List, [], ◌∷◌, ◌++◌, length, Option, Some, None, refl, sym, ap, subst, arith}
 use Rattle.std.specs.Prelude.{slice_get, ◌%◌}
-use Rattle.machine.specs.Behaviour.{IsBeginningOf, GoesOnTo, IsRun}
-use Rattle.machine.specs.Named.{Named}
-use Rattle.machine.specs.Program.{Program}
+use Rattle.lang_base.specs.Behaviour.{IsBeginningOf, GoesOnTo, IsRun}
+use Rattle.lang_base.specs.declared.program.Named.{Named}
+use Rattle.lang_base.specs.declared.program.Program.{Program}
 use Rattle.lang_base.proofs.Beginnings.{IsBeginningOf-refl, IsBeginningOf-trans}
 use Rattle.machine.specs.Frames.{main_number}
 use Rattle.cminor_syntax.specs.Trees.{StatementTree, StatementsTree, FunctionTree, Skip, Assign, Store, Call, Put, Sequence, If, Loop, Block, Exit, Return, Done, First}

@@ -6,5 +6,3 @@ pub mod Evaluation
 pub mod Meaning
 pub mod Growth
 pub mod Fits
-pub use Rattle.machine.specs.Acts
-pub use Rattle.machine.specs.Frames

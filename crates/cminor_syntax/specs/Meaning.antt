@@ -1,10 +1,10 @@
 -- What programs of Cminor do (Leroy 2009, section 3.1), with a bound. The bound is C's: it is spent at the
 -- head of each turn of a loop and at each call, whose bodies run with one less; what follows runs with it.
 use Rattle.std.specs.Prelude.{ℕ, zero, suc, ◌-◌, ◌%◌, ◌==◌, true, List, [], ◌∷◌, ◌++◌, length, Option, Some, None, map, replicate, slice_get, if◌then◌else◌}
-use Rattle.machine.specs.Shown.TheVariants.{Running, Ended, Wrong}
-use Rattle.machine.specs.Behaviour.{Shows, Behaviour}
-use Rattle.machine.specs.Named.{Named}
-use Rattle.machine.specs.Program.{Program}
+use Rattle.lang_base.specs.declared.shown.Shown.TheVariants.{Running, Ended, Wrong}
+use Rattle.lang_base.specs.Behaviour.{Shows, Behaviour}
+use Rattle.lang_base.specs.declared.program.Named.{Named}
+use Rattle.lang_base.specs.declared.program.Program.{Program}
 use Rattle.machine.specs.Frames.{main_number, cells_of}
 use Rattle.cminor_syntax.specs.Trees.{StatementTree, StatementsTree, FunctionTree, Skip, Assign, Store, Call, Put, Sequence, If, Loop, Block, Exit, Return, Done, First}
 use Rattle.cminor_syntax.specs.State.{State, given, put_cell}

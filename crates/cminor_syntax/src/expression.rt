@@ -1,4 +1,4 @@
-use machine::Op;
+use ints::Op;
 
 /// An expression: it gives a word or nothing defined, and changes nothing.
 #[derive(Drop)]

@@ -1,5 +1,5 @@
 use crate::expression::Expression;
-use machine::Row;
+use lang_base::Row;
 
 /// A statement. Variables, globals and functions go by their numbers.
 #[derive(Drop)]

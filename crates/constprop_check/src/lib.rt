@@ -14,8 +14,7 @@ mod verdict;
 
 pub use base::baseline;
 pub use behind::Written;
-pub use constprop_check_rules::{Fact, NodeRow};
-pub use lang_base::Fault;
+pub use constprop_check_rules::Fact;
 pub use lists::{FactLists, facts_of};
 pub use pass::ConstProp;
 pub use verdict::{check, why};

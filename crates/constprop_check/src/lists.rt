@@ -1,7 +1,8 @@
 ghost use Rattle.std.specs.Prelude.{◌≡◌};
-ghost use Rattle.constprop_check_rules.specs.Rows.{entries_at};
+ghost use Rattle.rtl_passes_marks.specs.Rows.{entries_at};
 
-use constprop_check_rules::{Fact, NodeRow, entries_of};
+use constprop_check_rules::Fact;
+use rtl_passes_marks::{NodeRow, entries_of};
 use lang_base::Row;
 
 /// The certificate: for marked nodes the facts that hold there, by rising nodes. Anybody may propose one, so nothing is

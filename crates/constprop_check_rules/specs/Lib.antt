@@ -1,23 +1,3 @@
 pub mod Known
 pub mod Ranges
 pub mod Rules
-pub use Rattle.rtl_passes_filled.specs.Edges
-pub use Rattle.rtl_passes_filled.specs.Ranked
-pub use Rattle.rtl_passes_filled.specs.RowForm
-pub use Rattle.rtl_passes_filled.specs.Rows
-pub use Rattle.rtl_passes_filled.specs.NodeRow
-pub use Rattle.rtl_passes_filled.specs.Accepted
-pub use Rattle.rtl_passes_filled.specs.Effects
-pub use Rattle.rtl_passes_filled.specs.Function
-pub use Rattle.rtl_passes_filled.specs.Instruction
-pub use Rattle.rtl_passes_filled.specs.Meaning
-pub use Rattle.rtl_passes_filled.specs.Rules as RtlPassesFilledRules
-pub use Rattle.rtl_passes_filled.specs.Acts
-pub use Rattle.rtl_passes_filled.specs.Data
-pub use Rattle.rtl_passes_filled.specs.Fits
-pub use Rattle.rtl_passes_filled.specs.RtlPartsReading
-pub use Rattle.rtl_passes_filled.specs.RtlPartsSpelling
-pub use Rattle.rtl_passes_filled.specs.ArgumentsPartialEq
-pub use Rattle.rtl_passes_filled.specs.Act
-pub use Rattle.rtl_passes_filled.specs.Arguments
-pub use Rattle.rtl_passes_filled.specs.Test

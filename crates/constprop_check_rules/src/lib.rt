@@ -12,7 +12,3 @@ pub use known::{
     act_target, act_value, apply, decision, fold, holds, known_result, value, word_of, written,
 };
 pub use law::propagated_keeps;
-pub use rtl_passes_filled::{
-    Act, Arguments, Instruction, NodeRow, Register, Test, entries_of, push_arguments,
-    read_arguments, read_register,
-};

@@ -13,8 +13,7 @@ mod rules;
 mod verdict;
 
 pub use base::baseline;
-pub use cse_check_rules::{Equation, NodeRow, RightSide};
-pub use lang_base::Fault;
+pub use cse_check_rules::{Equation, RightSide};
 pub use lists::{EquationLists, equations_of};
 pub use pass::Cse;
 pub use verdict::{check, why};

@@ -1,7 +1,8 @@
 ghost use Rattle.std.specs.Prelude.{◌≡◌};
-ghost use Rattle.cse_check_rules.specs.Rows.{entries_at};
+ghost use Rattle.rtl_passes_marks.specs.Rows.{entries_at};
 
-use cse_check_rules::{Equation, NodeRow, entries_of};
+use cse_check_rules::Equation;
+use rtl_passes_marks::{NodeRow, entries_of};
 use lang_base::Row;
 
 /// The certificate: for marked nodes the equations that hold there, by rising nodes. Anybody may propose one, so nothing

@@ -4,9 +4,9 @@ use Rattle.std.proofs.lemmas.Bool.{eqb-true, and_parts, false≢true}
 use denote.Enum.Bare.{same_true}
 use Rattle.ints.specs.contracts.operators.Op as op_type
 use Rattle.ints.specs.contracts.operators.OpPartialEq.TheImpl as op_eq
-use Rattle.constprop_check_rules.proofs.MachineEqual.{Tells}
-use Rattle.constprop_check_rules.specs.ArgumentsPartialEq.TheImpl as arguments_eq
-use Rattle.constprop_check_rules.proofs.Equal.{arguments_tells}
+use Rattle.machine.proofs.Equal.{Tells}
+use Rattle.rtl_parts.specs.contracts.arguments.ArgumentsPartialEq.TheImpl as arguments_eq
+use Rattle.rtl_parts.proofs.Equal.{arguments_tells}
 use Rattle.cse_check_rules.specs.contracts.equation.RightSidePartialEq.TheImpl as right_eq
 use Rattle.cse_check_rules.specs.contracts.equation.EquationPartialEq.TheImpl as equation_eq
 use Rattle.cse_check_rules.specs.declared.equation.RightSide.TheVariants.{Operation, Cell, Copy}

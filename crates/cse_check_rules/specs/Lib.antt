@@ -3,9 +3,3 @@ pub mod Order
 pub mod Ranges
 pub mod Reading
 pub mod Rules
-pub use Rattle.constprop_check_rules.specs.Known
-pub use Rattle.constprop_check_rules.specs.Edges
-pub use Rattle.constprop_check_rules.specs.Ranked
-pub use Rattle.constprop_check_rules.specs.RowForm
-pub use Rattle.constprop_check_rules.specs.Rows
-pub use Rattle.constprop_check_rules.specs.NodeRow

@@ -1,4 +1,4 @@
-use constprop_check_rules::{Arguments, Register};
+use rtl_parts::{Arguments, Register};
 use ints::Op;
 
 /// What stands on the right of an equation.

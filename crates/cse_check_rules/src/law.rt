@@ -3,9 +3,9 @@
 ghost use Rattle.lang_base.specs.Keeps.{Keeps};
 ghost use Rattle.lang_base.specs.declared.program.Program.{Program};
 ghost use Rattle.lang_base.specs.Soundness.{AllFit, Accepted};
-ghost use Rattle.constprop_check_rules.specs.Function.{FunctionData, IsFunction};
-ghost use Rattle.constprop_check_rules.specs.Meaning.{run};
-ghost use Rattle.constprop_check_rules.specs.RtlPassesFilledRules.{AreRight};
+ghost use Rattle.rtl_language.specs.Function.{FunctionData, IsFunction};
+ghost use Rattle.rtl_language.specs.Meaning.{run};
+ghost use Rattle.rtl_passes_filled.specs.Rules.{AreRight};
 ghost use Rattle.cse_check_rules.specs.Rules.{elimination, IsEliminated};
 
 /// A program of RTL keeps the meaning of another where the functions of one number have one shape, one name and beside

@@ -13,7 +13,6 @@ mod sharing;
 mod survival;
 mod writing;
 
-pub use constprop_check_rules::{NodeRow, entries_of, written};
 pub use equation::{Equation, RightSide};
 pub use law::eliminated_keeps;
 pub use order::rank;

@@ -5,7 +5,7 @@ ghost use Rattle.cse_check_rules.specs.Order.{arguments_rank, right_rank};
 ghost use Rattle.cse_check_rules.specs.Order.{rank as rank_of};
 
 use crate::equation::{Equation, RightSide};
-use constprop_check_rules::Arguments;
+use rtl_parts::Arguments;
 
 fn rank_of_arguments(arguments: &Arguments) -> u64
     ensures value { result ≡ arguments_rank arguments.now }

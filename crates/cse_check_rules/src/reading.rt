@@ -4,7 +4,7 @@ ghost use Rattle.lang_base.specs.Reading.{IsRead};
 ghost use Rattle.cse_check_rules.specs.Reading.{operation, cell, copying, right, equation};
 
 use crate::equation::{Equation, RightSide};
-use constprop_check_rules::{read_arguments, read_register};
+use rtl_parts::{read_arguments, read_register};
 use ints::Op;
 use lang_base::{FormError, read_byte};
 use lang_parts::read_global;

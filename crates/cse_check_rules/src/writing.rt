@@ -5,7 +5,7 @@ ghost use Rattle.lang_base.specs.Texts.{Appends};
 ghost use Rattle.cse_check_rules.specs.Order.{right_code, right_body, equation_text};
 
 use crate::equation::{Equation, RightSide};
-use constprop_check_rules::push_arguments;
+use rtl_parts::push_arguments;
 use lang_base::{NoMemory, push_byte, push_u16};
 
 fn push_right(out: &mut Vec<u8>, right: &RightSide) -> Result<(), NoMemory>

@@ -1,4 +1,3 @@
-pub use Rattle.durable_model_writes.specs.Writes
 pub mod Honest
 pub mod Moments
 pub mod Memory

@@ -4,7 +4,7 @@ use Rattle.std.specs.Prelude.{◌↔◌}
 use Rattle.std.proofs.lemmas.Bool.{cases_eq}
 use Rattle.std.proofs.lemmas.List.{drop_more}
 use Rattle.durable_model_writes.specs.declared.call.Call.{Call}
-use Rattle.durable_model.specs.Writes.{overwritten, Torn, overwritten_within}
+use Rattle.durable_model_writes.specs.Writes.{overwritten, Torn, overwritten_within}
 use Rattle.durable_model.specs.Honest.{Only}
 use Rattle.durable_model.specs.Moments.{LeavesOnly, started, goes_on}
 use Rattle.durable_pair.specs.Images.{Images, IsSpent, Both}

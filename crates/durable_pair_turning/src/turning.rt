@@ -1,7 +1,7 @@
 //! The turn from an old disk to a new one: the new text is durable before the old one is spent.
 
 ghost use Rattle.std.specs.Prelude.{◌≡◌, ◌<◌, ◌≤◌, ◌↔◌, ℕ, List, length, OnOk, IsErrOf};
-ghost use Rattle.durable_model.specs.Writes.{overwritten};
+ghost use Rattle.durable_model_writes.specs.Writes.{overwritten};
 ghost use Rattle.durable_model.specs.Honest.{Only, Risen};
 ghost use Rattle.durable_pair_turning.specs.Turning.{spent, KeepsNew, KeepsOld, LeavesOnlyOld, SpendsOnly, TurnsOnly};
 

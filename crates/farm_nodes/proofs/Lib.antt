@@ -1,3 +1,2 @@
 mod Fit
 mod One
-pub use Rattle.farm_nodes_threads.proofs.Coming

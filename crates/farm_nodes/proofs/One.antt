@@ -14,7 +14,7 @@ use Rattle.rooms_hall.specs.declared.hall.Naming as naming
 use Rattle.farm_nodes_linked.specs.Alike.{HaveCounted}
 use Rattle.farm_nodes_linked.specs.Learned.{learned_by}
 use Rattle.farm_nodes_linked.specs.Offered.{linked_offers}
-use Rattle.farm_nodes_linked.specs.NumberedSeat.{NumberedSeat}
+use Rattle.rooms_numbered.specs.declared.seat.NumberedSeat.{NumberedSeat}
 use Rattle.farm_nodes_linked.specs.declared.errors.LinkedError.{LinkedError}
 use Rattle.farm_nodes_linked.proofs.Alike.{one_learned}
 use Rattle.farm_nodes_source.specs.declared.source.Source.{Source}

@@ -6,7 +6,7 @@ use Rattle.lang_base.specs.Keeps.{Keeps}
 use Rattle.c_syntax.specs.Trees.{UnitTree}
 use Rattle.c_program.specs.Meaning.{crun}
 use Rattle.c_checker_rules.specs.Checked.{program_tree}
-use Rattle.farm_nodes_source.specs.Accepted.{IsAccepted, IsProgramOf}
+use Rattle.c_texts.specs.Accepted.{IsAccepted, IsProgramOf}
 use Rattle.cminor_lowering.specs.Programs.{low}
 use Rattle.cminor_program_ranges.specs.Names.{HaveNames}
 use Rattle.rtl_language.specs.Meaning as rtl

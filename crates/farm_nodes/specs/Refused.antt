@@ -10,7 +10,7 @@ use Rattle.farm_nodes_source.specs.Refused.{IsUnprepared}
 use Rattle.farm_nodes_source.specs.declared.fault.SourceFault.{SourceFault}
 use Rattle.farm_nodes_opened.specs.Back.{AllComeBack}
 use Rattle.farm_nodes_opened.specs.Refused.{TellsJournal, TellsOffer, TellsRoom}
-use Rattle.farm_nodes_opened.specs.OpenFault.{OpenFault}
+use Rattle.farm_nodes_seated.specs.declared.fault.OpenFault.{OpenFault}
 use Rattle.farm_nodes.specs.Prepared.{IsSourceOf}
 use Rattle.farm_nodes.specs.declared.error.FarmError.{FarmError}
 use Rattle.farm_nodes.specs.declared.error.FarmError.TheVariants as error

@@ -6,7 +6,7 @@ ghost use Rattle.farm_nodes_linked.specs.Linking.{CannotLink};
 ghost use Rattle.farm_nodes.specs.OneProgram.{LinkOneProgram};
 
 use farm_nodes_linked::{LinkedError, linked};
-use farm_nodes_opened::FarmNode;
+use farm_nodes_node::FarmNode;
 use farm_nodes_source::Source;
 use lang_base::Program;
 use linear_language::Function;

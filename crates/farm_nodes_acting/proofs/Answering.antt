@@ -12,16 +12,16 @@ use Rattle.paxos_core_law.specs.Would.{after_act, next_vote, kept_by}
 use Rattle.paxos_core_law.specs.declared.step.Act.TheVariants as core_act
 use Rattle.paxos_core_law.specs.declared.step.Step.{Step}
 use Rattle.paxos_core_law.specs.declared.step.Step.TheVariants as step
-use Rattle.farm_nodes_order.specs.AcceptorWord.{AcceptorWord}
-use Rattle.farm_nodes_order.specs.ProposerWord.{ProposerWord}
-use Rattle.farm_nodes_order.specs.Act.{Act}
-use Rattle.farm_nodes_order.specs.Act.TheVariants as act
-use Rattle.farm_nodes_order.specs.Did.{Did, LookedAtProposer, LookedAtAcceptor, NotesOf}
-use Rattle.farm_nodes_order.specs.SeatState.{SeatState, no_proposer, proposer_of, promise_of, vote_of, vote_by}
-use Rattle.farm_nodes_order.specs.Would.{would, act_of, proposed_by_step, Acted}
-use Rattle.farm_nodes_order.proofs.Acts.{may_promise, vote_seen}
-use Rattle.farm_nodes_order.proofs.RoomsStateTold.{notes_of}
-use Rattle.farm_nodes_order.specs.Meeting.{IsBounded}
+use Rattle.rooms_rule.specs.declared.acceptor.AcceptorWord.{AcceptorWord}
+use Rattle.rooms_rule.specs.declared.proposer.ProposerWord.{ProposerWord}
+use Rattle.rooms_state.specs.declared.act.Act.{Act}
+use Rattle.rooms_state.specs.declared.act.Act.TheVariants as act
+use Rattle.rooms_state.specs.Did.{Did, LookedAtProposer, LookedAtAcceptor, NotesOf}
+use Rattle.rooms_state.specs.SeatState.{SeatState, no_proposer, proposer_of, promise_of, vote_of, vote_by}
+use Rattle.rooms_state.specs.Would.{would, act_of, proposed_by_step, Acted}
+use Rattle.rooms_state.proofs.Acts.{may_promise, vote_seen}
+use Rattle.rooms_state.proofs.Told.{notes_of}
+use Rattle.rooms_seat.specs.Meeting.{IsBounded}
 use Rattle.rooms_crash.proofs.Keeping.{goes_acting, goes_looking_at_acceptor, goes_looking_at_proposer, goes_same, goes_through}
 use Rattle.farm_nodes_acting.specs.Quiet.{IsQuiet, HasHeard}
 

@@ -3,7 +3,3 @@ pub mod Runs
 pub mod Steps
 pub mod Results
 pub mod Answering
-pub use Rattle.farm_nodes_order.proofs.Records
-pub use Rattle.farm_nodes_order.proofs.Orders
-pub use Rattle.farm_nodes_order.proofs.Told
-pub use Rattle.rooms_crash.proofs.Keeping

@@ -13,7 +13,7 @@ use Rattle.acceptor_log_form.specs.Lists.{Begins, Between}
 use Rattle.acceptor_log.specs.declared.log.Log.{Log}
 use Rattle.acceptor_log.specs.Acknowledged.{acknowledged, IsReady}
 use Rattle.acceptor_log.proofs.Runs.{weaker}
-use Rattle.farm_nodes_order.specs.SeatState.{SeatState}
+use Rattle.rooms_state.specs.SeatState.{SeatState}
 use Rattle.farm_nodes_acting.specs.JournalAdvances.{JournalAdvances, AreOf}
 use Rattle.farm_nodes_order.specs.Ordered.{AreOrdered, IsUnproposed}
 use Rattle.farm_nodes_order.proofs.Orders.{Follows, IsSameNode, in_order_at, more_in_order, more_ordered, ordered_at, same_turned}

@@ -17,13 +17,13 @@ use Rattle.acceptor_log_form.specs.declared.record.Record.{Record}
 use Rattle.acceptor_log_form.specs.Leaves.{kept_by}
 use Rattle.acceptor_log.specs.declared.log.Log.{Log}
 use Rattle.acceptor_log.specs.Acknowledged.{IsNoFault}
-use Rattle.farm_nodes_order.specs.Act.{Act}
-use Rattle.farm_nodes_order.specs.Act.TheVariants as act
-use Rattle.farm_nodes_order.specs.Did.{Did}
-use Rattle.farm_nodes_order.specs.SeatState.{SeatState, proposer_of, promise_of, vote_of}
-use Rattle.farm_nodes_order.specs.Would.{would, act_of, proposed_by_step, IsStarted, ProposesNoMore, Acted}
-use Rattle.farm_nodes_order.proofs.Acts.{vote_seen}
-use Rattle.farm_nodes_order.specs.Meeting.{IsBounded}
+use Rattle.rooms_state.specs.declared.act.Act.{Act}
+use Rattle.rooms_state.specs.declared.act.Act.TheVariants as act
+use Rattle.rooms_state.specs.Did.{Did}
+use Rattle.rooms_state.specs.SeatState.{SeatState, proposer_of, promise_of, vote_of}
+use Rattle.rooms_state.specs.Would.{would, act_of, proposed_by_step, IsStarted, ProposesNoMore, Acted}
+use Rattle.rooms_state.proofs.Acts.{vote_seen}
+use Rattle.rooms_seat.specs.Meeting.{IsBounded}
 use Rattle.farm_nodes_acting.specs.Cause.{IsFull, HasCause}
 use Rattle.farm_nodes_acting.specs.Noted.{record_of, records_of, IsByte}
 use Rattle.farm_nodes_order.proofs.Records.{kept_step}

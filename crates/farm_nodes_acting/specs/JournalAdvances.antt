@@ -8,7 +8,7 @@ use Rattle.acceptor_log_form.specs.Order.{AreInOrder}
 use Rattle.acceptor_log_form.specs.Text.{room_of}
 use Rattle.acceptor_log.specs.declared.log.Log.{Log}
 use Rattle.acceptor_log.specs.Acknowledged.{acknowledged}
-use Rattle.farm_nodes_order.specs.SeatState.{SeatState}
+use Rattle.rooms_state.specs.SeatState.{SeatState}
 use Rattle.farm_nodes_order.specs.Ordered.{AreOrdered}
 
 -- records of so many rooms

@@ -4,7 +4,7 @@ use Rattle.durable_model.specs.declared.disk.Disk as disks
 use Rattle.acceptor_log_form.specs.declared.record.Record.{Record}
 use Rattle.acceptor_log.specs.declared.log.Log.{Log}
 use Rattle.acceptor_log.specs.Acknowledged.{acknowledged, IsReady}
-use Rattle.farm_nodes_order.specs.SeatState.{SeatState}
+use Rattle.rooms_state.specs.SeatState.{SeatState}
 use Rattle.farm_nodes_acting.specs.declared.stop.Stop.{Stop}
 use Rattle.farm_nodes_acting.specs.Noted.{pending_of}
 use Rattle.farm_nodes_acting.specs.JournalAdvances.{JournalAdvances}

@@ -4,10 +4,3 @@ pub mod JournalAdvances
 pub mod Journalled
 pub mod Cause
 pub mod Quiet
-pub use Rattle.farm_nodes_order.specs.SeatState
-pub use Rattle.farm_nodes_order.specs.Would
-pub use Rattle.farm_nodes_order.specs.Ordered
-pub use Rattle.farm_nodes_order.specs.OfferIn
-pub use Rattle.rooms_crash.specs.OfRun
-pub use Rattle.acceptor_log.specs.Acknowledged
-pub use Rattle.acceptor_log.specs.declared.log.Log

@@ -1,8 +1,8 @@
 -- What a node puts down of a step before it takes it.
 use Rattle.std.specs.Prelude.{ℕ, List, [], ◌∷◌}
 use Rattle.acceptor_log_form.specs.declared.record.Record.{Record}
-use Rattle.farm_nodes_order.specs.SeatState.{SeatState}
-use Rattle.farm_nodes_order.specs.Would.{would, IsAmong}
+use Rattle.rooms_state.specs.SeatState.{SeatState}
+use Rattle.rooms_state.specs.Would.{would, IsAmong}
 pub use Rattle.farm_nodes_order.specs.Recorded.{record_of, records_of, IsByte}
 use Rattle.farm_nodes_acting.specs.declared.stop.Pending.{Pending}
 use Rattle.farm_nodes_acting.specs.declared.stop.Pending.TheVariants.{Act, Offer}

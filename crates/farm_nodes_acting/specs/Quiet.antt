@@ -1,8 +1,8 @@
 -- A seat with nothing left to answer, and what hearing others leaves of a seat.
 use Rattle.std.specs.Prelude.{◌≡◌, ℕ, ◌≤◌, Some, None}
-use Rattle.farm_nodes_order.specs.Act.TheVariants as act
-use Rattle.farm_nodes_order.specs.SeatState.{SeatState}
-use Rattle.farm_nodes_order.specs.Would.{would}
+use Rattle.rooms_state.specs.declared.act.Act.TheVariants as act
+use Rattle.rooms_state.specs.SeatState.{SeatState}
+use Rattle.rooms_state.specs.Would.{would}
 use Rattle.rooms_crash.specs.OfRun.{GoesOn}
 
 -- nothing is left to accept or to promise of node j

@@ -2,7 +2,7 @@
 
 ghost use Rattle.std.specs.Prelude.{◌≡◌, ◌≢◌, None, true, is_some, IfOk, IfErr, OnErr};
 ghost use Rattle.acceptor_log.specs.Acknowledged.{IsSound, WhileGoing};
-ghost use Rattle.farm_nodes_order.specs.Would.{would, Acted, IsAmong};
+ghost use Rattle.rooms_state.specs.Would.{would, Acted, IsAmong};
 ghost use Rattle.farm_nodes_acting.specs.Noted.{record_of, IsActAmong, IsByte};
 ghost use Rattle.farm_nodes_acting.specs.Served.{IsServed};
 ghost use Rattle.farm_nodes_acting.specs.Journalled.{IsJournalled};
@@ -10,11 +10,12 @@ ghost use Rattle.farm_nodes_acting.specs.Cause.{StopsFor};
 ghost use Rattle.farm_nodes_acting.specs.declared.stop.Pending.{Pending as Waiting};
 
 use crate::stop::{Pending, Stop};
-use acceptor_log::{Log, Record};
+use acceptor_log::Log;
+use acceptor_log_form::Record;
 use durable_model::Disk;
-use farm_nodes_order::WordSeat;
-use farm_nodes_order::act::Act;
-use rooms_crash::Step;
+use rooms_seat::WordSeat;
+use rooms_state::act::Act;
+use paxos_core_law::step::Step;
 
 /// Does what it is asked, where that is a step: puts down its record, and then takes it. Answers whether it took one.
 pub fn act<D: Disk>(

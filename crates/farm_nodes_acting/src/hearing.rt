@@ -12,8 +12,8 @@ use crate::acting::act;
 use crate::stop::Stop;
 use acceptor_log::Log;
 use durable_model::Disk;
-use farm_nodes_order::WordSeat;
-use farm_nodes_order::act::Act;
+use rooms_seat::WordSeat;
+use rooms_state::act::Act;
 
 /// Hears every node, its own number too. Answers whether it took a step.
 pub fn hear_all<D: Disk>(log: &mut Log<D>, seat: &mut WordSeat, room: u16) -> Result<bool, Stop>

@@ -6,8 +6,6 @@ mod acting;
 mod hearing;
 mod stop;
 
-pub use acceptor_log::{Log, LogError, Record};
 pub use acting::{act, record_of};
-pub use farm_nodes_order::WordSeat;
 pub use hearing::{hear, hear_all};
 pub use stop::{Pending, Stop};

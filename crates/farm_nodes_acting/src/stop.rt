@@ -1,5 +1,5 @@
-use acceptor_log::{LogError, Record};
-use farm_nodes_order::act::Act;
+use acceptor_log_form::{LogError, Record};
+use rooms_state::act::Act;
 
 /// What a node was about to do when it was stopped.
 #[derive(PartialEq, Eq, Drop)]

@@ -6,15 +6,15 @@ use Rattle.std.proofs.lemmas.List.Elements.{All-nil, All-cons}
 use Rattle.lang_base.specs.declared.program.Named.{Named}
 use Rattle.lang_base.specs.declared.program.Program.{Program}
 use Rattle.rtl_language.specs.Function as rtl
-use Rattle.bundle_offers.specs.Offers.{Offers}
-use Rattle.bundle_offers.specs.Baselines.{AreAccepted}
-use Rattle.bundle_offers.specs.ChainsLent.{Chain}
-use Rattle.bundle_offers.specs.Offered as chained
+use Rattle.chains.specs.declared.offering.Offers.{Offers}
+use Rattle.chains.specs.Accepted.{AreAccepted}
+use Rattle.chains.specs.Lent.{Chain}
+use Rattle.chains.specs.Offered as chained
 use Rattle.bundle_form.specs.declared.bundle.Texts.{Texts}
 use Rattle.bundle_form.specs.Form.{IsBundle, TextsFit, bundle_text}
-use Rattle.bundle_offers.specs.Lent.{lent_offers}
+use Rattle.bundle_reading.specs.LentOffers.{lent_offers}
 use Rattle.bundle_offers.specs.Linking.{BundleLinks}
-use Rattle.bundle_offers.specs.Texts.{texts_of, OffersFit, IsBundleOf, bundle_with}
+use Rattle.bundle_reading.specs.Texts.{texts_of, OffersFit, IsBundleOf, bundle_with}
 use Rattle.farm_nodes_linked.specs.Learned.{FourOffers}
 use Rattle.farm_nodes_linked.specs.Lent as lending
 use Rattle.farm_nodes_linked.specs.Offered.{linked_offers, ends_of, AllGoOn}

@@ -2,12 +2,12 @@
 use Rattle.std.specs.Prelude.{◌≡◌, ℕ, List, [], ◌∷◌, Option, Some, None}
 use Rattle.lang_base.specs.declared.program.Program.{Program}
 use Rattle.rtl_language.specs.Function as rtl
-use Rattle.bundle_offers.specs.Offers.{Offers}
-use Rattle.bundle_offers.specs.Baselines.{AreAccepted}
+use Rattle.chains.specs.declared.offering.Offers.{Offers}
+use Rattle.chains.specs.Accepted.{AreAccepted}
 use Rattle.bundle_form.specs.declared.bundle.Texts.{Texts}
 use Rattle.bundle_form.specs.Form.{TextsFit}
 use Rattle.bundle_offers.specs.Linking.{BundleLinks}
-use Rattle.bundle_offers.specs.Texts.{texts_of, OffersFit}
+use Rattle.bundle_reading.specs.Texts.{texts_of, OffersFit}
 use Rattle.farm_nodes_linked.specs.Learned.{FourOffers}
 use Rattle.farm_nodes_linked.specs.Offered.{linked_offers, AllGoOn}
 

@@ -2,11 +2,13 @@
 
 ghost use Rattle.std.specs.Prelude.{◌≡◌, ◌≤◌, length, IfOk, IsSome};
 ghost use Rattle.farm_nodes_linked.specs.Learned.{learned_by, learned_four, IsUndecided};
-ghost use Rattle.bundle_offers.specs.Texts.{IsBundleOf};
+ghost use Rattle.bundle_reading.specs.Texts.{IsBundleOf};
 ghost use Rattle.farm_nodes_bundled.specs.Bundled.{offers_in, AreTextsAt, AreTextsOf, LinksLearned};
 
-use bundle_offers::{Texts, texts_of, written};
-use farm_nodes_linked::{NumberedSeat, chain_of};
+use bundle_form::Texts;
+use bundle_reading::{texts_of, written};
+use rooms_numbered::NumberedSeat;
+use farm_nodes_linked::chain_of;
 use lang_base::NoMemory;
 use rooms_hall::Naming;
 use std::alloc::Global;

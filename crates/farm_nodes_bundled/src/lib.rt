@@ -4,7 +4,3 @@
 mod bundling;
 
 pub use bundling::bundled;
-pub use farm_nodes_linked::{
-    FarmNode, LinkError, LinkedError, NumberedSeat, Oracles, has_learned_all, is_undecided,
-    linked_translated,
-};

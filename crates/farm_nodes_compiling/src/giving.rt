@@ -5,7 +5,8 @@ use lang_base::{NoMemory, Oracle};
 use linearize_check::Order;
 use oracle_alloc_speed::AllocSpeed;
 use oracle_const::{ConstOracle, ConstSpeed};
-use oracle_cse::{AllocOracle, CseOracle, CseSpeed};
+use oracle_alloc::AllocOracle;
+use oracle_cse::{CseOracle, CseSpeed};
 use oracle_order::{OrderOracle, OrderSpeed};
 use rand_pcg::Pcg32;
 use std::alloc::Global;
@@ -58,7 +59,7 @@ impl Oracles for Optimisers {
         alloc: Global,
         input: &rtl_language::Function,
         words: &mut Pcg32,
-    ) -> Result<Option<(ltl::Function, oracle_cse::EquationLists)>, NoMemory> {
+    ) -> Result<Option<(ltl::Function, alloc_check_verdict::EquationLists)>, NoMemory> {
         match self {
             Optimisers::Drawn => AllocOracle.propose(alloc, input, words),
             Optimisers::Speed => AllocSpeed.propose(alloc, input, words),

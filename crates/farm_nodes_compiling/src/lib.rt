@@ -5,6 +5,5 @@
 mod giving;
 mod law;
 
-pub use farm_nodes_passes::Oracles;
 pub use giving::{Optimisers, Optimising, optimisers_of};
 pub use law::stays_small;

@@ -18,11 +18,11 @@ use Rattle.rooms_state.proofs.Opened.{same_nodes}
 use Rattle.rooms_crash.specs.Held.{MayHold}
 use Rattle.rooms_crash.proofs.Keeping.{stands_known}
 use Rattle.rooms_crash.proofs.Resting.{learns_again}
-use Rattle.farm_nodes_node.specs.Fours.{words_of}
-use Rattle.farm_nodes_node.specs.Numbers.{function_of, pass_of, place_of, room_at}
-use Rattle.farm_nodes_node.specs.Which.{Which}
+use Rattle.farm_nodes_passes.specs.Fours.{words_of}
+use Rattle.farm_nodes_passes.specs.Numbers.{function_of, pass_of, place_of, room_at}
+use Rattle.farm_nodes_passes.specs.declared.which.Which.{Which}
 use Rattle.farm_nodes_node.specs.declared.halted.Halted.{Halted}
-use Rattle.farm_nodes_functions.specs.Kept.{kept_of}
+use Rattle.farm_nodes_function_rooms.specs.Kept.{kept_of}
 use Rattle.farm_nodes_restart_records.proofs.Rooms.{function_at, pass_at_room}
 use Rattle.farm_nodes_seated.proofs.Lists.{found_at}
 use Rattle.farm_nodes_crash.specs.Again.{AreOpenedOn, IsLaterSeat, LearnedAgain}

@@ -12,7 +12,7 @@ use Rattle.acceptor_log_form.specs.Text.{StandsFor}
 use Rattle.acceptor_log.specs.declared.log.Log.{Log}
 use Rattle.farm_nodes_node.specs.Held.{pending_in}
 use Rattle.farm_nodes_node.specs.declared.halted.Halted.{Halted}
-use Rattle.farm_nodes_node.specs.Texts.{pass_texts}
+use Rattle.farm_nodes_passes.specs.Texts.{pass_texts}
 use Rattle.farm_nodes_returning.proofs.Own.{own_in_order}
 use Rattle.farm_nodes_restart_records.proofs.Leaving.{front_in_order}
 use Rattle.farm_nodes_disks.specs.Journals.{header_of, IsOpened}

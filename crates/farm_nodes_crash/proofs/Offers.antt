@@ -22,15 +22,15 @@ use Rattle.offers.specs.declared.parts.Parts.{Parts}
 use Rattle.farm_nodes_order.specs.Recorded.{record_of, records_of}
 use Rattle.farm_nodes_acting.specs.declared.stop.Pending.{Pending}
 use Rattle.farm_nodes_acting.specs.declared.stop.Pending.TheVariants.{Act, Offer}
-use Rattle.rooms_seat.specs.Would.{would}
-use Rattle.farm_nodes_node.specs.Fours.{Four, words_of}
+use Rattle.rooms_state.specs.Would.{would}
+use Rattle.farm_nodes_passes.specs.Fours.{Four, words_of}
 use Rattle.farm_nodes_node.specs.Held.{pending_in}
-use Rattle.farm_nodes_node.specs.Numbers.{function_of, pass_at, pass_of, place_of}
-use Rattle.farm_nodes_node.specs.Offers.{ConstantsOffer, ExpressionsOffer, AllocationOffer, OrderOffer, IsConstants, IsExpressions, IsAllocation, IsOrder}
-use Rattle.farm_nodes_node.specs.Leaves.{left_in, IsPendingIn, Leave, MayPend}
-use Rattle.farm_nodes_node.specs.Texts.{IsOwnTextIn, pass_texts}
-use Rattle.farm_nodes_node.specs.Which.{Which}
-use Rattle.farm_nodes_node.specs.Which.TheVariants.{Constants, Expressions, Allocation, Order}
+use Rattle.farm_nodes_passes.specs.Numbers.{function_of, pass_at, pass_of, place_of}
+use Rattle.farm_nodes_passes.specs.Offers.{ConstantsOffer, ExpressionsOffer, AllocationOffer, OrderOffer, IsConstants, IsExpressions, IsAllocation, IsOrder}
+use Rattle.farm_nodes_passes.specs.Leaves.{left_in, IsPendingIn, Leave, MayPend}
+use Rattle.farm_nodes_passes.specs.Texts.{IsOwnTextIn, pass_texts}
+use Rattle.farm_nodes_passes.specs.declared.which.Which.{Which}
+use Rattle.farm_nodes_passes.specs.declared.which.Which.TheVariants.{Constants, Expressions, Allocation, Order}
 use Rattle.farm_nodes_node.specs.declared.halted.Halted.{Halted}
 use Rattle.farm_nodes_offers.specs.Pending.{IsOfferText}
 use Rattle.paxos_core_world.specs.KeptPart.{KeptPart}

@@ -14,12 +14,12 @@ use Rattle.acceptor_log_form.specs.Leaves.{kept_in}
 use Rattle.acceptor_log.specs.Acknowledged.{acknowledged}
 use Rattle.acceptor_log.specs.declared.log.Log.{Log}
 use Rattle.farm_nodes_node.specs.Held.{pending_in}
-use Rattle.farm_nodes_node.specs.Numbers.{place_of, room_at}
-use Rattle.farm_nodes_node.specs.Which.{Which}
+use Rattle.farm_nodes_passes.specs.Numbers.{place_of, room_at}
+use Rattle.farm_nodes_passes.specs.declared.which.Which.{Which}
 use Rattle.farm_nodes_node.specs.declared.halted.Halted.{Halted}
 use Rattle.farm_nodes_disks.specs.Journals.{AreOpened}
-use Rattle.farm_nodes_functions.specs.Kept.{kept_of}
-use Rattle.farm_nodes_functions.specs.Left.{AreLeft, AreLeftIn}
+use Rattle.farm_nodes_function_rooms.specs.Kept.{kept_of}
+use Rattle.farm_nodes_function_rooms.specs.Left.{AreLeft, AreLeftIn}
 use Rattle.farm_nodes_stored.specs.Nodes.{AreMade}
 use Rattle.farm_nodes_stored.specs.Read.{IsKeptPart}
 use Rattle.farm_nodes_seated.proofs.Lists.{found_at}

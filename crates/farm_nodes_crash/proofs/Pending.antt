@@ -9,9 +9,9 @@ use Rattle.acceptor_log_form.specs.declared.record.Record.{Record}
 use Rattle.acceptor_log_form.specs.declared.record.Record.TheVariants.{Offered}
 use Rattle.acceptor_log_form.specs.Leaves.{kept_in}
 use Rattle.acceptor_log_form.specs.Lists.{Begins}
-use Rattle.rooms_seat.specs.Act.{Act as Asked}
-use Rattle.rooms_seat.specs.SeatState.{SeatState}
-use Rattle.rooms_seat.specs.Would.{would, IsAmong}
+use Rattle.rooms_state.specs.declared.act.Act.{Act as Asked}
+use Rattle.rooms_state.specs.SeatState.{SeatState}
+use Rattle.rooms_state.specs.Would.{would, IsAmong}
 use Rattle.rooms_crash.specs.Held.{MayHold}
 use Rattle.farm_nodes_order.specs.Recorded.{record_of, records_of}
 use Rattle.farm_nodes_order.proofs.Records.{kept_other, kept_own, kept_step, room_of_step}

@@ -9,11 +9,11 @@ use Rattle.acceptor_log.specs.Acknowledged.{acknowledged}
 use Rattle.acceptor_log.specs.declared.log.Log.{Log}
 use Rattle.rooms_state.specs.SeatState.{SeatState, opening_of}
 use Rattle.rooms_crash.specs.OfRun.{IsOfRun}
-use Rattle.farm_nodes_node.specs.Fours.{words_of}
-use Rattle.farm_nodes_node.specs.Numbers.{room_at}
-use Rattle.farm_nodes_node.specs.Which.{Which}
+use Rattle.farm_nodes_passes.specs.Fours.{words_of}
+use Rattle.farm_nodes_passes.specs.Numbers.{room_at}
+use Rattle.farm_nodes_passes.specs.declared.which.Which.{Which}
 use Rattle.farm_nodes_node.specs.declared.halted.Halted.{Halted}
-use Rattle.farm_nodes_functions.specs.Kept.{kept_of}
+use Rattle.farm_nodes_function_rooms.specs.Kept.{kept_of}
 use Rattle.farm_nodes_stored.specs.Nodes.{AreMade}
 use Rattle.farm_nodes_stored.specs.Read.{AreKept}
 use Rattle.farm_nodes_opened.specs.Back.{IsJournalOn}

@@ -10,8 +10,8 @@ use Rattle.acceptor_log_form.specs.declared.errors.LogError.TheVariants.{Device,
 use Rattle.acceptor_log.specs.Acknowledged.{acknowledged}
 use Rattle.acceptor_log.specs.declared.log.Log.{Log}
 use Rattle.farm_nodes_node.specs.declared.halted.Halted.{Halted}
-use Rattle.farm_nodes_functions.specs.Kept.{AreSettled}
-use Rattle.farm_nodes_functions.specs.RoomFault.TheVariants.{Unsettled}
+use Rattle.farm_nodes_function_rooms.specs.Kept.{AreSettled}
+use Rattle.farm_nodes_function_rooms.specs.declared.fault.RoomFault.TheVariants.{Unsettled}
 use Rattle.farm_nodes_stored.specs.Nodes.{AreMade}
 use Rattle.farm_nodes_stored.specs.Read.{AreKept}
 use Rattle.farm_nodes_seated.specs.Refused.{HasBadRecord, IsRoomUnopened}

@@ -4,7 +4,7 @@ ghost use Rattle.farm_nodes_crash.specs.Meeting.{NodesThatMetRest};
 ghost use Rattle.farm_nodes_crash.specs.Stand.{LeftJournalsStand, LeftRoomsStand, MetNodesRest, OpenedRoomsStand};
 
 use durable_pair::Pair;
-use paxos_core::Quorums;
+use paxos_core_world::quorum::Quorums;
 
 /// What a crash of all nodes of a farm leaves on their pairs of disks; it does nothing.
 pub fn left_by_all<P: Pair>(quorums: Quorums)

@@ -3,7 +3,7 @@ use Rattle.std.proofs.Common.{◌≡◌, ◌≢◌, ◌⊎◌, inl, inr, ⊎_eli
 use Rattle.std.specs.Prelude.{◌↔◌, get_or}
 use Rattle.durable_model.specs.Honest.{Only, Risen, Unchanged, risen_within}
 use Rattle.durable_model.specs.Moments.{LeavesOnly, composed}
-use Rattle.durable_model.specs.Writes.{overwritten}
+use Rattle.durable_model_writes.specs.Writes.{overwritten}
 use Rattle.durable_model.specs.declared.disk.Disk as disks
 use Rattle.durable_pair.specs.declared.pair.Pair as pairs
 use Rattle.durable_pair.specs.Images.{Images, IsSpent, Shows, Both}
@@ -15,7 +15,7 @@ use Rattle.acceptor_log_form.specs.declared.header.Header.{Header}
 use Rattle.acceptor_log_form.specs.declared.record.Record.{Record}
 use Rattle.acceptor_log.specs.Acknowledged.{acknowledged, IsSound}
 use Rattle.acceptor_log.specs.declared.log.Log.{Log}
-use Rattle.acceptor_log_migrating.specs.Migrated.{migrated}
+use Rattle.acceptor_log_migrated.specs.Migrated.{migrated}
 use Rattle.acceptor_log_migrating.specs.Stands.{CanMigrate, IsMigrating, IsNotMigrated}
 use Rattle.farm_nodes_pairs.specs.OnPairs.{HasOld, HasNone, HasNew, MayShow, IsSame, IsUntouched}
 use Rattle.farm_nodes_disks.specs.Journals.{MayTurn, IsOpened, IsRefused, IsMigrated, IsListed, WasMigrated}

@@ -1,6 +1,6 @@
 -- A migrated journal is listed.
 use Rattle.std.proofs.Common.{◌≡◌, ◌≢◌, refl, ℕ, ◌+◌, List, [], ◌∷◌, length, Some, sym, ap, ◌∙◌, subst}
-use Rattle.durable_model.specs.Writes.{overwritten}
+use Rattle.durable_model_writes.specs.Writes.{overwritten}
 use Rattle.durable_model.specs.declared.disk.Disk as disks
 use Rattle.durable_pair.specs.declared.pair.Pair as pairs
 use Rattle.acceptor_log_form.specs.Fault.{HasFault}
@@ -13,7 +13,7 @@ use Rattle.acceptor_log_form.specs.declared.record.Record.{Record}
 use Rattle.acceptor_log.specs.Acknowledged.{acknowledged, IsReady}
 use Rattle.acceptor_log.specs.Rest.{Rests}
 use Rattle.acceptor_log.specs.declared.log.Log.{Log}
-use Rattle.acceptor_log_migrating.specs.Migrated.{migrated}
+use Rattle.acceptor_log_migrated.specs.Migrated.{migrated}
 use Rattle.acceptor_log_migrating.specs.Stands.{CanMigrate}
 use Rattle.farm_nodes_disks.specs.Journals.{WasMigrated}
 

@@ -14,7 +14,7 @@ use Rattle.acceptor_log_form.specs.declared.header.Header.{Header}
 use Rattle.acceptor_log_form.specs.declared.record.Record.{Record}
 use Rattle.acceptor_log.specs.Acknowledged.{acknowledged, IsSound}
 use Rattle.acceptor_log.specs.declared.log.Log.{Log}
-use Rattle.acceptor_log_migrating.specs.Migrated.{migrated}
+use Rattle.acceptor_log_migrated.specs.Migrated.{migrated}
 use Rattle.acceptor_log_migrating.specs.Stands.{CanMigrate, IsMigrating, IsNotMigrated}
 use Rattle.acceptor_log_migrating.specs.Moving.{IsTurned}
 use Rattle.farm_nodes_disks.specs.declared.refused.RefusedPair.{RefusedPair}

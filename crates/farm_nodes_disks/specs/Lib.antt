@@ -1,3 +1,2 @@
 pub mod Journals
 pub mod Steps
-pub use Rattle.farm_nodes_pairs.specs.OnPairs

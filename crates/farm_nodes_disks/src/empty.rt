@@ -2,7 +2,7 @@ ghost use Rattle.std.specs.Prelude.{◌≡◌, ◌≢◌, ◌≤◌, ◌↔◌, 
 ghost use Rattle.durable_model.specs.Honest.{Elapses, Risen, Unchanged};
 ghost use Rattle.acceptor_log.specs.Faults.{log_fault};
 
-use acceptor_log::LogError;
+use acceptor_log_form::LogError;
 use durable_model::{Disk, DiskError};
 use std::alloc::Global;
 

@@ -6,7 +6,8 @@ ghost use Rattle.acceptor_log.specs.Acknowledged.{acknowledged, IsSound};
 ghost use Rattle.farm_nodes_disks.specs.Steps.{returned, first_text, IsFaultOf, LeavesNothingElse};
 
 use crate::empty::is_empty;
-use acceptor_log::{Header, Log, LogError, Record};
+use acceptor_log_form::{Header, LogError, Record};
+use acceptor_log::Log;
 use durable_model::Disk;
 use std::alloc::Global;
 

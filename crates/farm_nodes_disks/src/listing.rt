@@ -7,7 +7,8 @@ ghost use Rattle.acceptor_log_form.specs.declared.errors.LogError.TheVariants.{N
 ghost use Rattle.acceptor_log.specs.Acknowledged.{acknowledged};
 ghost use Rattle.farm_nodes_disks.specs.Steps.{IsReadyOn};
 
-use acceptor_log::{Header, Listed, Log, LogError, Record, no_fault, one_list, read};
+use acceptor_log_form::{Header, LogError, Record, no_fault, one_list};
+use acceptor_log::{Listed, Log, read};
 use durable_pair::Pair;
 use std::alloc::Global;
 

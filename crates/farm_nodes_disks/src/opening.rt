@@ -3,9 +3,10 @@ ghost use Rattle.farm_nodes_disks.specs.Journals.{header_of, AreAllOpened, IsRef
 
 use crate::pair::open_pair;
 use crate::refused::RefusedPair;
-use acceptor_log::{Header, Log, LogError, Record};
+use acceptor_log_form::{Header, LogError, Record};
+use acceptor_log::Log;
 use durable_pair::Pair;
-use paxos_core::Quorums;
+use paxos_core_world::quorum::Quorums;
 use std::alloc::Global;
 
 /// Whose journal it is, in a farm with these quorums.

@@ -9,7 +9,8 @@ ghost use Rattle.farm_nodes_disks.specs.Steps.{returned, AreMigrated, IsSameOrMi
 
 use crate::journal::open_journal;
 use crate::listing::list;
-use acceptor_log::{Header, Log, LogError, Record};
+use acceptor_log_form::{Header, LogError, Record};
+use acceptor_log::Log;
 use acceptor_log_migrating::migrate;
 use durable_pair::Pair;
 use farm_nodes_pairs::{OldDisk, old_disk};

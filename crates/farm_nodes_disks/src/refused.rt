@@ -1,4 +1,5 @@
-use acceptor_log::{Log, LogError, Record};
+use acceptor_log::Log;
+use acceptor_log_form::{LogError, Record};
 use std::vec::IntoIter;
 
 /// A journal that is refused, and the pairs of all nodes: those in front of it with their journals, its own, and those behind it.

@@ -12,8 +12,8 @@ use Rattle.rooms_rule.specs.declared.view.Opening.{Opening}
 use Rattle.rooms_state.specs.SeatState.{opening_of}
 use Rattle.rooms.specs.Opened.{offer_at, opened, opened_first, with_seen, AreOffersOf, AreOpened}
 use Rattle.rooms.specs.SeatValue.{SeatValue}
-use Rattle.farm_nodes_passes.specs.FunctionSeat.{FunctionSeat}
-use Rattle.farm_nodes_passes.specs.FunctionOf.{function_of}
+use Rattle.rooms_function.specs.declared.seat.FunctionSeat.{FunctionSeat}
+use Rattle.rooms_numbered.specs.FunctionOf.{function_of}
 use Rattle.farm_nodes_function_rooms.specs.Numbered.{AreOfOneFunction, HaveOneClaim, IsOpenedRoom}
 
 pub map-map : {A B C : Type 0} (f : B → C) (g : A → B) (xs : List A) → map f (map g xs) ≡ map (λ x. f (g x)) xs

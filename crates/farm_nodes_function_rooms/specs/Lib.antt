@@ -2,10 +2,3 @@ pub mod Numbered
 pub mod Kept
 pub mod Left
 pub mod StaySettled
-pub use Rattle.farm_nodes_passes.specs.Numbers
-pub use Rattle.farm_nodes_passes.specs.Offers
-pub use Rattle.farm_nodes_passes.specs.NumberedSeat
-pub use Rattle.farm_nodes_passes.specs.declared.passes.Passes
-pub use Rattle.farm_nodes_passes.specs.declared.which.Which
-pub use Rattle.farm_nodes_passes.specs.FarmNodesOffersPending
-pub use Rattle.farm_nodes_passes.specs.Told

@@ -6,8 +6,8 @@ use Rattle.rooms_hall.specs.Claimed.{Claimed}
 use Rattle.rooms_hall.specs.RoomId.{AreNumbered, RoomId}
 use Rattle.rooms.specs.Opened.{AreOpened}
 use Rattle.rooms.specs.SeatValue.{SeatValue}
-use Rattle.farm_nodes_passes.specs.FunctionSeat.{FunctionSeat}
-use Rattle.farm_nodes_passes.specs.FunctionOf.{function_of}
+use Rattle.rooms_function.specs.declared.seat.FunctionSeat.{FunctionSeat}
+use Rattle.rooms_numbered.specs.FunctionOf.{function_of}
 
 -- the seats are all of these rooms, whose table was opened with this number
 pub record AreOfOneFunction (number : ℕ) (seats : List FunctionSeat) : Type 0 where

@@ -7,7 +7,6 @@ mod law;
 mod numbering;
 mod parts;
 
-pub use farm_nodes_passes::{NumberedSeat, Passes};
 pub use fault::{RoomFault, Unopened};
 pub use law::left_is_settled;
 pub use numbering::numbered;

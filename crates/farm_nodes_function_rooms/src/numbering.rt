@@ -2,7 +2,8 @@ ghost use Rattle.std.specs.Prelude.{◌≡◌, ◌<◌, length, map, IfOk, IfErr
 ghost use Rattle.farm_nodes_function_rooms.specs.Numbered.{AreOfOneFunction, HaveOneClaim};
 
 use crate::fault::RoomFault;
-use farm_nodes_passes::{FunctionSeat, NumberedSeat};
+use rooms_function::FunctionSeat;
+use rooms_numbered::NumberedSeat;
 use rooms_hall::{Drawn, Naming};
 use std::alloc::Global;
 

@@ -3,7 +3,7 @@ ghost use Rattle.paxos_core_world.specs.World.{nodes_of};
 ghost use Rattle.farm_nodes_function_rooms.specs.Kept.{four_kept, parts_of};
 
 use lang_base::NoMemory;
-use paxos_core::Kept;
+use paxos_core_world::kept::Kept;
 use std::alloc::Global;
 
 /// What a node has kept of a room.

@@ -12,9 +12,9 @@ use Rattle.rooms.specs.SeatValue.{SeatValue}
 use Rattle.rooms_function.specs.Opened.{kept_in, AreSeatsOf}
 use Rattle.rooms_function.specs.declared.opening.FunctionOffers.{FunctionOffers}
 use Rattle.rooms_function.specs.declared.seat.FunctionSeat.{FunctionSeat}
-use Rattle.farm_nodes_function_rooms.specs.NumberedSeat.{NumberedSeat}
-use Rattle.farm_nodes_function_rooms.specs.Numbers.{room_at}
-use Rattle.farm_nodes_function_rooms.specs.Which.TheVariants.{Constants, Expressions, Allocation, Order}
+use Rattle.rooms_numbered.specs.declared.seat.NumberedSeat.{NumberedSeat}
+use Rattle.farm_nodes_passes.specs.Numbers.{room_at}
+use Rattle.farm_nodes_passes.specs.declared.which.Which.TheVariants.{Constants, Expressions, Allocation, Order}
 use Rattle.farm_nodes_lists.specs.Rows.{offers_of, rows_of}
 use Rattle.farm_nodes_function_rooms.specs.Kept.{kept_of, parts_of, AreSettled}
 use Rattle.farm_nodes_function_rooms.specs.Numbered.{AreOfOneFunction, HaveOneClaim, IsOpenedRoom}

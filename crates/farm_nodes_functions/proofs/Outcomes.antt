@@ -11,9 +11,9 @@ use Rattle.rooms.specs.declared.error.RoomError.TheVariants as error
 use Rattle.rooms_function.specs.declared.opening.FunctionOffers.{FunctionOffers}
 use Rattle.rooms_function.specs.Opened.{kept_in}
 use Rattle.rooms_function.specs.Opened as by_pass
-use Rattle.farm_nodes_function_rooms.specs.Which.{Which}
-use Rattle.farm_nodes_function_rooms.specs.Which.TheVariants.{Constants, Expressions, Allocation, Order}
-use Rattle.farm_nodes_function_rooms.specs.Numbers.{function_of, room_at}
+use Rattle.farm_nodes_passes.specs.declared.which.Which.{Which}
+use Rattle.farm_nodes_passes.specs.declared.which.Which.TheVariants.{Constants, Expressions, Allocation, Order}
+use Rattle.farm_nodes_passes.specs.Numbers.{function_of, room_at}
 use Rattle.farm_nodes_function_rooms.specs.Kept.{four_kept, kept_of, parts_of, AreSettled, AreSettledBefore, IsOfferedIn, IsSettledIn}
 use Rattle.farm_nodes_function_rooms.specs.declared.fault.RoomFault.{RoomFault}
 use Rattle.farm_nodes_function_rooms.specs.declared.fault.RoomFault.TheVariants.{CellRefused, NoMemory, Spent, Unsettled}

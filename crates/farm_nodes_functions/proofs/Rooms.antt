@@ -8,10 +8,10 @@ use Rattle.rooms_hall.specs.Claimed.{Claimed}
 use Rattle.rooms_hall.specs.declared.hall.Naming as naming
 use Rattle.rooms.specs.Opened.{AreOffersOf}
 use Rattle.rooms.specs.SeatValue.{SeatValue}
-use Rattle.farm_nodes_function_rooms.specs.Numbers.{function_of, room_at}
-use Rattle.farm_nodes_function_rooms.specs.NumberedSeat.{NumberedSeat}
-use Rattle.farm_nodes_function_rooms.specs.Which.{Which}
-use Rattle.farm_nodes_function_rooms.specs.Which.TheVariants.{Constants, Expressions, Allocation, Order}
+use Rattle.farm_nodes_passes.specs.Numbers.{function_of, room_at}
+use Rattle.rooms_numbered.specs.declared.seat.NumberedSeat.{NumberedSeat}
+use Rattle.farm_nodes_passes.specs.declared.which.Which.{Which}
+use Rattle.farm_nodes_passes.specs.declared.which.Which.TheVariants.{Constants, Expressions, Allocation, Order}
 use Rattle.farm_nodes_lists.specs.Rows.{column, grown, offers_of, rows_of, AreForOthers}
 use Rattle.farm_nodes_lists.proofs.Columns.{column_front, column_last, grown_long}
 use Rattle.farm_nodes_function_rooms.specs.Kept.{kept_of, AreSettled, AreSettledBefore, IsSettledIn}

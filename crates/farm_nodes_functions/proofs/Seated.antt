@@ -14,8 +14,8 @@ use Rattle.rooms_hall.specs.Claimed.{Claimed}
 use Rattle.rooms.specs.Opened.{offer_at}
 use Rattle.rooms.specs.SeatValue.{SeatValue, offer_of}
 use Rattle.rooms_crash.specs.OfRun.{IsOfRun}
-use Rattle.farm_nodes_function_rooms.specs.Numbers.{room_at}
-use Rattle.farm_nodes_function_rooms.specs.Which.{Which}
+use Rattle.farm_nodes_passes.specs.Numbers.{room_at}
+use Rattle.farm_nodes_passes.specs.declared.which.Which.{Which}
 use Rattle.farm_nodes_function_rooms.specs.Kept.{kept_of, AreSettled}
 use Rattle.farm_nodes_function_rooms.proofs.Seated.{no_other_offer, node_opens, own_offer}
 use Rattle.farm_nodes_function_rooms.proofs.Seated as opening

@@ -1,9 +1,3 @@
 pub mod Opened
 pub mod Function
 pub mod Seats
-pub use Rattle.farm_nodes_function_rooms.specs.Kept
-pub use Rattle.farm_nodes_function_rooms.specs.Left
-pub use Rattle.farm_nodes_function_rooms.specs.declared.fault.RoomFault
-pub use Rattle.rooms_function.specs.AllocPass
-pub use Rattle.farm_nodes_function_rooms.specs.FarmNodesOffersPending
-pub use Rattle.farm_nodes_function_rooms.specs.Told

@@ -6,8 +6,8 @@ use Rattle.paxos_core_world.specs.Quorum.{Sizes}
 use Rattle.rooms_hall.specs.Claimed.{Claimed}
 use Rattle.rooms.specs.Opened.{AreOffersOf}
 use Rattle.rooms.specs.SeatValue.{SeatValue}
-use Rattle.farm_nodes_function_rooms.specs.Numbers.{room_at}
-use Rattle.farm_nodes_function_rooms.specs.Which.{Which}
+use Rattle.farm_nodes_passes.specs.Numbers.{room_at}
+use Rattle.farm_nodes_passes.specs.declared.which.Which.{Which}
 use Rattle.farm_nodes_function_rooms.specs.Kept.{kept_of, IsSettledIn}
 use Rattle.farm_nodes_function_rooms.specs.Numbered.{IsOpenedRoom}
 use Rattle.farm_nodes_lists.specs.Rows.{column, offers_of}

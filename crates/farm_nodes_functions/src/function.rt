@@ -1,5 +1,5 @@
 ghost use Rattle.std.specs.Prelude.{◌≡◌, ◌+◌, ◌*◌, ◌<◌, ◌≤◌, ◌⊎◌, length, IfOk, OnOk, IfErr};
-ghost use Rattle.farm_nodes_function_rooms.specs.Which.TheVariants as which;
+ghost use Rattle.farm_nodes_passes.specs.declared.which.Which.TheVariants as which;
 ghost use Rattle.farm_nodes_lists.specs.Rows.{rows_of};
 ghost use Rattle.farm_nodes_function_rooms.specs.declared.fault.RoomFault.TheVariants as fault;
 ghost use Rattle.farm_nodes_functions.specs.Opened.{AreOfferedFor};
@@ -7,14 +7,17 @@ ghost use Rattle.farm_nodes_functions.specs.Function.{room_fault, AreHere, AreTa
 
 use constprop_check::ConstProp;
 use cse_check::Cse;
-use farm_nodes_function_rooms::{NumberedSeat, Passes, RoomFault, Unopened, numbered, parts_of};
+use rooms_numbered::NumberedSeat;
+use farm_nodes_passes::Passes;
+use farm_nodes_function_rooms::{RoomFault, Unopened, numbered, parts_of};
 use farm_nodes_lists::take_each;
 use lang_base::NoMemory;
 use linearize_check::Linearize;
 use offers::Offer;
-use paxos_core::{Kept, Quorums};
+use paxos_core_world::{kept::Kept, quorum::Quorums};
 use rooms::RoomError;
-use rooms_function::{Alloc, FunctionOffers, FunctionRoom};
+use alloc_check::Alloc;
+use rooms_function::{FunctionOffers, FunctionRoom};
 use rooms_hall::{DrawError, Drawn, Hall, Naming};
 use std::alloc::Global;
 

@@ -5,7 +5,5 @@
 mod function;
 mod opening;
 
-pub use farm_nodes_function_rooms::RoomFault;
 pub use function::Offered;
 pub use opening::open_functions;
-pub use rooms_function::Alloc;

@@ -1,5 +1,5 @@
 ghost use Rattle.std.specs.Prelude.{◌≡◌, ◌≢◌, ℕ, ◌<◌, ◌≤◌, ◌*◌, All, length, IfOk, OnOk, IfErr};
-ghost use Rattle.farm_nodes_function_rooms.specs.Which.TheVariants as which;
+ghost use Rattle.farm_nodes_passes.specs.declared.which.Which.TheVariants as which;
 ghost use Rattle.farm_nodes_function_rooms.specs.Kept.{AreSettled, IsOfferedIn, IsSettledIn};
 ghost use Rattle.farm_nodes_function_rooms.specs.Left.{AreLeftIn};
 ghost use Rattle.farm_nodes_function_rooms.specs.declared.fault.RoomFault.TheVariants as fault;
@@ -8,10 +8,11 @@ ghost use Rattle.farm_nodes_functions.specs.Opened.{AreOfferedIn, IsSettledBefor
 ghost use Rattle.farm_nodes_functions.specs.Seats.{OpenAllocation, OpenConstants, OpenExpressions, OpenOrder};
 
 use crate::function::{Offered, open_function};
-use farm_nodes_function_rooms::{NumberedSeat, Unopened};
+use rooms_numbered::NumberedSeat;
+use farm_nodes_function_rooms::Unopened;
 use farm_nodes_lists::{add_each, none_yet};
 use lang_base::NoMemory;
-use paxos_core::{Kept, Quorums};
+use paxos_core_world::{kept::Kept, quorum::Quorums};
 use rooms_hall::{Hall, Naming};
 use std::alloc::Global;
 

@@ -7,8 +7,8 @@ use Rattle.acceptor_log_form.specs.Order.{AreInOrder}
 use Rattle.acceptor_log_form.specs.Text.{StandsFor}
 use Rattle.acceptor_log.specs.declared.log.Log.{Log}
 use Rattle.acceptor_log.specs.Acknowledged.{acknowledged, IsReady}
-use Rattle.farm_nodes_node.specs.Fours.{Four}
-use Rattle.farm_nodes_node.specs.Texts.{Texts}
+use Rattle.farm_nodes_passes.specs.Fours.{Four}
+use Rattle.farm_nodes_passes.specs.Texts.{Texts}
 use Rattle.farm_nodes_node.specs.declared.halted.Halted.{Halted}
 use Rattle.farm_nodes_node.specs.Held.{IsJournalOf, IsSoundBy}
 use Rattle.farm_nodes_joining.specs.Joined.{IsHeld}

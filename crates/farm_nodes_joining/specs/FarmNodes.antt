@@ -5,7 +5,7 @@ use Rattle.durable_model.specs.declared.disk.Disk as disks
 use Rattle.lang_base.specs.declared.program.Program.{Program}
 use Rattle.rtl_language.specs.Function.{FunctionData}
 use Rattle.rooms_hall.specs.declared.hall.Naming as naming
-use Rattle.farm_nodes_node.specs.Fours.{fours_of}
+use Rattle.farm_nodes_passes.specs.Fours.{fours_of}
 use Rattle.farm_nodes_node.specs.Held.{IsSoundNode}
 use Rattle.farm_nodes_node.specs.declared.farm_node.FarmNode.{FarmNode}
 

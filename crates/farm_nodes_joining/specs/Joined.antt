@@ -9,10 +9,10 @@ use Rattle.acceptor_log_form.specs.Order.{AreInOrder}
 use Rattle.acceptor_log_form.specs.declared.record.Record.{Record}
 use Rattle.rooms_hall.specs.declared.hall.Naming as naming
 use Rattle.farm_nodes_node.specs.Held.{AreOfRuns, AreSeatsOf, AreUnproposed}
-use Rattle.farm_nodes_node.specs.Fours.{Four, fours_of}
-use Rattle.farm_nodes_node.specs.Leaves.{Leave}
-use Rattle.farm_nodes_node.specs.NumberedSeat.{NumberedSeat}
-use Rattle.farm_nodes_node.specs.Texts.{Texts, pass_texts}
+use Rattle.farm_nodes_passes.specs.Fours.{Four, fours_of}
+use Rattle.farm_nodes_passes.specs.Leaves.{Leave}
+use Rattle.rooms_numbered.specs.declared.seat.NumberedSeat.{NumberedSeat}
+use Rattle.farm_nodes_passes.specs.Texts.{Texts, pass_texts}
 
 -- The journal goes on, and the seats are its node's, each of its run; what it has acknowledged stands for what they keep and tells their offers, names
 -- no room but theirs, and is in order.

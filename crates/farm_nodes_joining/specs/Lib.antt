@@ -1,7 +1,3 @@
 pub mod FarmNodes
 pub mod Joined
 pub mod Words
-pub use Rattle.farm_nodes_node.specs.Held
-pub use Rattle.farm_nodes_node.specs.Waiting
-pub use Rattle.farm_nodes_node.specs.declared.farm_node.FarmNode
-pub use Rattle.farm_nodes_node.specs.Texts

@@ -6,9 +6,11 @@ ghost use Rattle.farm_nodes_joining.specs.Joined.{AreHeldOn};
 ghost use Rattle.farm_nodes_joining.specs.Words.{generators};
 
 use crate::pieces::{Pieces, made_of, pieces_of};
-use acceptor_log::{Log, Record};
+use acceptor_log::Log;
+use acceptor_log_form::Record;
 use durable_model::Disk;
-use farm_nodes_node::{FarmNode, NumberedSeat};
+use farm_nodes_node::FarmNode;
+use rooms_numbered::NumberedSeat;
 use lang_base::{NoMemory, Program};
 use rooms_hall::Naming;
 use rtl_language::Function;

@@ -5,5 +5,4 @@
 mod joining;
 mod pieces;
 
-pub use farm_nodes_node::{FarmNode, Halted, Turn};
 pub use joining::join_nodes;

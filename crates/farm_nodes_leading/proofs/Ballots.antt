@@ -17,7 +17,7 @@ use Rattle.rooms_state.specs.SeatState.{SeatState, proposer_of}
 use Rattle.rooms_state.specs.Would.{would, Acted, IsStarted}
 use Rattle.farm_nodes_leading.specs.Leading.{may_start, is_passed, HasLed, LeavesAll, StaysInRoom}
 use Rattle.farm_nodes_acting.specs.Quiet.{HasHeard, IsQuiet}
-use Rattle.farm_nodes_acting.proofs.Keeping.{goes_acting, goes_same, goes_through}
+use Rattle.rooms_crash.proofs.Keeping.{goes_acting, goes_same, goes_through}
 use Rattle.farm_nodes_acting.proofs.Answering.{IsPast, left_quiet, quiet_left, did_of, word_same}
 
 -- ---- proposing

@@ -1,2 +1,1 @@
 pub mod Ballots
-pub use Rattle.farm_nodes_acting.proofs.Results

@@ -5,7 +5,7 @@ use Rattle.paxos_core_law.specs.NodeState.{NodeState}
 use Rattle.rooms_state.specs.declared.act.Act.TheVariants as act
 use Rattle.rooms_state.specs.SeatState.{SeatState}
 use Rattle.rooms_state.specs.Would.{would}
-use Rattle.farm_nodes_acting.specs.OfRun.{GoesOn}
+use Rattle.rooms_crash.specs.OfRun.{GoesOn}
 
 -- the ballot under way, if there is one, is below the promised one
 abbrev pub is_passed : Option ℕ → ℕ → Bool

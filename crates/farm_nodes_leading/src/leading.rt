@@ -13,7 +13,8 @@ ghost use Rattle.farm_nodes_leading.specs.Leading.{may_start, is_passed, LeadsBy
 
 use acceptor_log::Log;
 use durable_model::Disk;
-use farm_nodes_acting::{Stop, WordSeat, act};
+use farm_nodes_acting::{Stop, act};
+use rooms_seat::WordSeat;
 use rand_core::utils::NextWord;
 use rand_pcg::Pcg32;
 use rooms_state::act::Act;

@@ -12,7 +12,8 @@ ghost use Rattle.farm_nodes_leading.specs.Leading.{LeadsByLot, StaysInRoom};
 use crate::leading::{either, lead};
 use acceptor_log::Log;
 use durable_model::Disk;
-use farm_nodes_acting::{Stop, WordSeat, hear_all};
+use farm_nodes_acting::{Stop, hear_all};
+use rooms_seat::WordSeat;
 use rand_pcg::Pcg32;
 
 /// Hears every node, and then leads. Answers whether it took a step.

@@ -7,10 +7,10 @@ use Rattle.std.proofs.lemmas.Option.{slice_get-map, slice_get_within}
 use Rattle.rooms_hall.specs.declared.hall.Naming as naming
 use Rattle.rooms_cells.specs.Seen.{value_at}
 use Rattle.rooms.specs.SeatValue.{SeatValue, offer_of}
-use Rattle.farm_nodes_seat_meeting.specs.Meeting.{Remains}
-use Rattle.farm_nodes_seat_meeting.specs.Offers.{ConstantsOffer, ExpressionsOffer, AllocationOffer, OrderOffer}
+use Rattle.rooms_seat.specs.Meeting.{Remains}
+use Rattle.farm_nodes_passes.specs.Offers.{ConstantsOffer, ExpressionsOffer, AllocationOffer, OrderOffer}
 use Rattle.farm_nodes_seat_meeting.specs.Learned.{learned_offer, offer_learned}
-use Rattle.farm_nodes_seat_meeting.specs.NumberedSeat.{NumberedSeat}
+use Rattle.rooms_numbered.specs.declared.seat.NumberedSeat.{NumberedSeat}
 use Rattle.farm_nodes_seat_meeting.specs.Held.{held_of}
 use Rattle.farm_nodes_seat_meeting.specs.Lists.{HaveMetAll}
 use Rattle.farm_nodes_linked.specs.Alike.{KeepsLearned}

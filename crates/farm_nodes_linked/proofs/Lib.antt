@@ -4,4 +4,3 @@ mod Beside
 mod Exits
 pub mod Alike
 pub mod Kept
-pub use Rattle.farm_nodes_seat_meeting.proofs.Sent

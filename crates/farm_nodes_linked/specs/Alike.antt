@@ -4,7 +4,7 @@ use Rattle.lang_base.specs.declared.program.Program.{Program}
 use Rattle.rooms_hall.specs.declared.hall.Naming as naming
 use Rattle.rtl_language.specs.Function as rtl
 use Rattle.linear_language.specs.Function as linear
-use Rattle.farm_nodes_seat_meeting.specs.NumberedSeat.{NumberedSeat}
+use Rattle.rooms_numbered.specs.declared.seat.NumberedSeat.{NumberedSeat}
 use Rattle.farm_nodes_seat_meeting.specs.Held.{held_of}
 use Rattle.farm_nodes_seat_meeting.specs.Lists.{HaveMetAll}
 use Rattle.farm_nodes_linked.specs.Learned.{FourOffers, learned_by, IsUndecided}

@@ -2,7 +2,7 @@
 use Rattle.std.specs.Prelude.{List, map, Option, Some, None}
 use Rattle.linker.specs.declared.chain.Chain as linking_chain
 use Rattle.linker.specs.declared.chain.Named as linking_named
-use Rattle.farm_nodes_seat_meeting.specs.Offers.{ConstantsOffer, ExpressionsOffer, AllocationOffer, OrderOffer}
+use Rattle.farm_nodes_passes.specs.Offers.{ConstantsOffer, ExpressionsOffer, AllocationOffer, OrderOffer}
 use Rattle.farm_nodes_linked.specs.Learned.{FourOffers}
 
 abbrev pub Chain : Type 0

@@ -5,14 +5,3 @@ pub mod Refused
 pub mod Translated
 pub mod Alike
 pub mod Linking
-pub use Rattle.farm_nodes_seat_meeting.specs.Held
-pub use Rattle.farm_nodes_seat_meeting.specs.Lists
-pub use Rattle.linker.specs.Chains
-pub use Rattle.rtlgen_definition.specs.Gen
-pub use Rattle.cminor_lowering.specs.Programs
-pub use Rattle.lang_base.specs.Keeps
-pub use Rattle.farm_nodes_node.specs.declared.halted.Halted
-pub use Rattle.farm_nodes_seat_meeting.specs.NumberedSeat
-pub use Rattle.linker.specs.Numbers
-pub use Rattle.linker.specs.declared.errors.LinkError
-pub use Rattle.farm_nodes_seat_meeting.specs.Fours

@@ -4,7 +4,7 @@ use Rattle.std.specs.Arc.{arc_value}
 use Rattle.c_checker_rules.specs.Checked.{Contents, program_tree}
 use Rattle.cminor_lowering.specs.Programs.{low}
 use Rattle.rtlgen_definition.specs.Gen.{gen}
-use Rattle.linker.specs.RtlgenRefused.{HasFewNodes}
+use Rattle.rtlgen.specs.Refused.{HasFewNodes}
 use Rattle.linker.specs.Chains.{names_of}
 use Rattle.linker.specs.declared.errors.LinkError.TheVariants.{NoMemory, Names}
 use Rattle.rooms_hall.specs.declared.hall.Naming as naming

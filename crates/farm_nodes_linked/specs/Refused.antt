@@ -5,7 +5,7 @@ use Rattle.lang_base.specs.declared.program.Program.{Program}
 use Rattle.cminor_syntax.specs.Trees.{FunctionTree}
 use Rattle.rtl_language.specs.Function.{FunctionData}
 use Rattle.rtlgen_definition.specs.Gen.{gen}
-use Rattle.linker.specs.RtlgenRefused.{IsFirstTooLarge}
+use Rattle.rtlgen.specs.Refused.{IsFirstTooLarge}
 use Rattle.linker.specs.Chains.{names_of}
 use Rattle.linker.specs.Numbers.{number_of_link_error}
 use Rattle.linker.specs.declared.errors.LinkError.{LinkError}

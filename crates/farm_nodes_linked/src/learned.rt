@@ -2,7 +2,8 @@ ghost use Rattle.std.specs.Prelude.{◌≡◌, ◌↔◌, is_some, IsTrue};
 ghost use Rattle.farm_nodes_linked.specs.Learned.{learned_by, learned_four, IsUndecided};
 ghost use Rattle.farm_nodes_linked.specs.Lent.{lent};
 
-use farm_nodes_seat_meeting::{NumberedSeat, learned_offer};
+use rooms_numbered::NumberedSeat;
+use farm_nodes_seat_meeting::learned_offer;
 use linker::Chain;
 use rooms_hall::Naming;
 

@@ -9,10 +9,7 @@ mod linking;
 mod translated;
 
 pub use errors::LinkedError;
-pub use farm_nodes_node::FarmNode;
-pub use farm_nodes_seat_meeting::{NumberedSeat, Oracles, has_learned_offer};
 pub use laws::one_program;
 pub use learned::{chain_of, has_learned_all, is_undecided};
-pub use linker::LinkError;
 pub use linking::linked;
 pub use translated::linked_translated;

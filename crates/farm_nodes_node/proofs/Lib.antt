@@ -1,3 +1,2 @@
 pub mod Standings
 pub mod Whole
-pub use Rattle.farm_nodes_turn.proofs.Places

@@ -10,20 +10,20 @@ use Rattle.acceptor_log_form.specs.Lists.{Begins, Between}
 use Rattle.acceptor_log_form.specs.Order.{AreInOrder}
 use Rattle.acceptor_log.specs.declared.log.Log.{Log}
 use Rattle.acceptor_log.specs.Acknowledged.{acknowledged}
-use Rattle.farm_nodes_turn.specs.SeatState.{SeatState}
-use Rattle.farm_nodes_turn.specs.JournalAdvances.{JournalAdvances, AreOf}
-use Rattle.farm_nodes_turn.specs.Numbers.{function_of, pass_of}
+use Rattle.rooms_state.specs.SeatState.{SeatState}
+use Rattle.farm_nodes_acting.specs.JournalAdvances.{JournalAdvances, AreOf}
+use Rattle.farm_nodes_passes.specs.Numbers.{function_of, pass_of}
 use Rattle.farm_nodes_node.specs.declared.halted.Halted.{Halted}
-use Rattle.farm_nodes_turn.specs.Fours.{Four, words_of}
-use Rattle.farm_nodes_turn.specs.Leaves.{Leave}
+use Rattle.farm_nodes_passes.specs.Fours.{Four, words_of}
+use Rattle.farm_nodes_passes.specs.Leaves.{Leave}
 use Rattle.farm_nodes_node.specs.Held.{pending_in, AreUnproposed}
-use Rattle.farm_nodes_turn.specs.Told.{offer_in, IsToldAs}
-use Rattle.farm_nodes_turn.specs.Texts.{Texts, IsOwnTextIn}
+use Rattle.farm_nodes_offers.specs.Told.{offer_in, IsToldAs}
+use Rattle.farm_nodes_passes.specs.Texts.{Texts, IsOwnTextIn}
 use Rattle.farm_nodes_turn.specs.Turned.{OthersStay, StaysIn}
 use Rattle.farm_nodes_node.specs.Stood.{TurnsBy}
 use Rattle.farm_nodes_turn.proofs.Owned.{own_stays}
 use Rattle.farm_nodes_turn.proofs.Places.{same_room, words_other}
-use Rattle.farm_nodes_turn.proofs.Told.{offer_stays}
+use Rattle.farm_nodes_order.proofs.Told.{offer_stays}
 
 apart : (m n : ℕ) → eqb m n ≡ false → m ≢ n
 apart m n e same = let bad : true ≡ false = sym (eq-eqb m n same) ∙ e in absurd (cc)

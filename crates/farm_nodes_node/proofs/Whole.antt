@@ -7,27 +7,27 @@ use Rattle.acceptor_log_form.specs.Leaves.{proposed_in}
 use Rattle.acceptor_log_form.specs.Order.{AreInOrder}
 use Rattle.acceptor_log.specs.declared.log.Log.{Log}
 use Rattle.acceptor_log.specs.Acknowledged.{acknowledged}
-use Rattle.farm_nodes_turn.specs.Ordered.{AreOrdered, IsOfOneNode, IsUnproposed}
-use Rattle.farm_nodes_turn.specs.OfRun.{IsOfRun}
-use Rattle.farm_nodes_turn.specs.SeatState.{SeatState}
-use Rattle.farm_nodes_turn.specs.JournalAdvances.{JournalAdvances, AreOf}
-use Rattle.farm_nodes_turn.specs.Served.{IsServed}
-use Rattle.farm_nodes_turn.specs.Fault.{Fault}
-use Rattle.farm_nodes_turn.specs.Halt.{Halt}
-use Rattle.farm_nodes_turn.specs.Halted.{left_over, HasHaltCause}
-use Rattle.farm_nodes_turn.specs.Numbers.{function_of, pass_of}
-use Rattle.farm_nodes_turn.specs.Progress.{Progress}
-use Rattle.farm_nodes_turn.specs.Progress.TheVariants.{Learned, Moved, Idle}
-use Rattle.farm_nodes_turn.specs.Played.{progress_of}
+use Rattle.farm_nodes_order.specs.Ordered.{AreOrdered, IsOfOneNode, IsUnproposed}
+use Rattle.rooms_crash.specs.OfRun.{IsOfRun}
+use Rattle.rooms_state.specs.SeatState.{SeatState}
+use Rattle.farm_nodes_acting.specs.JournalAdvances.{JournalAdvances, AreOf}
+use Rattle.farm_nodes_acting.specs.Served.{IsServed}
+use Rattle.farm_nodes_offers.specs.declared.halt.Fault.{Fault}
+use Rattle.farm_nodes_offers.specs.declared.halt.Halt.{Halt}
+use Rattle.farm_nodes_offers.specs.Halted.{left_over, HasHaltCause}
+use Rattle.farm_nodes_passes.specs.Numbers.{function_of, pass_of}
+use Rattle.farm_nodes_playing.specs.declared.progress.Progress.{Progress}
+use Rattle.farm_nodes_playing.specs.declared.progress.Progress.TheVariants.{Learned, Moved, Idle}
+use Rattle.farm_nodes_playing.specs.Played.{progress_of}
 use Rattle.farm_nodes_node.specs.declared.halted.Halted.{Halted}
-use Rattle.farm_nodes_turn.specs.Which.{Which}
-use Rattle.farm_nodes_turn.specs.Which.TheVariants.{Constants, Expressions, Allocation, Order}
-use Rattle.farm_nodes_turn.specs.Fours.{Four, words_of}
-use Rattle.farm_nodes_turn.specs.Told.{TellNew}
-use Rattle.farm_nodes_turn.specs.Texts.{Texts, IsOwnTextIn}
+use Rattle.farm_nodes_passes.specs.declared.which.Which.{Which}
+use Rattle.farm_nodes_passes.specs.declared.which.Which.TheVariants.{Constants, Expressions, Allocation, Order}
+use Rattle.farm_nodes_passes.specs.Fours.{Four, words_of}
+use Rattle.farm_nodes_offers.specs.Told.{TellNew}
+use Rattle.farm_nodes_passes.specs.Texts.{Texts, IsOwnTextIn}
 use Rattle.farm_nodes_turn.specs.Turned.{OthersStay, StaysIn}
 use Rattle.farm_nodes_node.specs.Told.{failure_of, turn_of}
-use Rattle.farm_nodes_turn.specs.Leaves.{Leave, left_in}
+use Rattle.farm_nodes_passes.specs.Leaves.{Leave, left_in}
 use Rattle.farm_nodes_node.specs.Held.{pending_in, sizes_in, AreOfRuns, AreSeatsOf, AreUnproposed, IsSoundBy}
 use Rattle.farm_nodes_turn.specs.Turns.{PlayedIn}
 use Rattle.farm_nodes_node.specs.Stood.{TurnsBy}

@@ -9,16 +9,16 @@ use Rattle.acceptor_log_form.specs.Lists.{Between}
 use Rattle.acceptor_log.specs.declared.log.Log.{Log}
 use Rattle.acceptor_log.specs.Acknowledged.{acknowledged}
 use Rattle.acceptor_log.specs.Acknowledged as journal
-use Rattle.farm_nodes_turn.specs.OfRun.{IsOfRun}
-use Rattle.farm_nodes_turn.specs.JournalAdvances.{AreOf}
-use Rattle.farm_nodes_turn.specs.Fault.{Fault}
+use Rattle.rooms_crash.specs.OfRun.{IsOfRun}
+use Rattle.farm_nodes_acting.specs.JournalAdvances.{AreOf}
+use Rattle.farm_nodes_offers.specs.declared.halt.Fault.{Fault}
 use Rattle.farm_nodes_node.specs.declared.halted.Halted.{Halted}
-use Rattle.farm_nodes_turn.specs.Ordered.{IsUnproposed}
-use Rattle.farm_nodes_turn.specs.Fours.{Four, words_of}
-use Rattle.farm_nodes_turn.specs.Offers.{ConstantsOffer, ExpressionsOffer, AllocationOffer, OrderOffer}
-use Rattle.farm_nodes_turn.specs.Texts.{Texts, pass_texts}
-use Rattle.farm_nodes_turn.specs.Numbers.{function_of, pass_of}
-use Rattle.farm_nodes_turn.specs.Leaves.{Leave, pending_at}
+use Rattle.farm_nodes_order.specs.Ordered.{IsUnproposed}
+use Rattle.farm_nodes_passes.specs.Fours.{Four, words_of}
+use Rattle.farm_nodes_passes.specs.Offers.{ConstantsOffer, ExpressionsOffer, AllocationOffer, OrderOffer}
+use Rattle.farm_nodes_passes.specs.Texts.{Texts, pass_texts}
+use Rattle.farm_nodes_passes.specs.Numbers.{function_of, pass_of}
+use Rattle.farm_nodes_passes.specs.Leaves.{Leave, pending_at}
 
 -- the fault that stopped the node
 abbrev pub fault_in : Option Halted → Option Fault

@@ -4,15 +4,3 @@ pub mod Waiting
 pub mod Stood
 pub mod Asked
 pub mod Turning
-pub use Rattle.farm_nodes_turn.specs.Turned
-pub use Rattle.farm_nodes_turn.specs.Turns
-pub use Rattle.farm_nodes_turn.specs.Fours
-pub use Rattle.farm_nodes_turn.specs.Leaves
-pub use Rattle.farm_nodes_turn.specs.Numbers
-pub use Rattle.farm_nodes_turn.specs.Which
-pub use Rattle.farm_nodes_turn.specs.Offers
-pub use Rattle.farm_nodes_turn.specs.Pending
-pub use Rattle.farm_nodes_turn.specs.Texts
-pub use Rattle.farm_nodes_turn.specs.NumberedSeat
-pub use Rattle.farm_nodes_turn.specs.Played
-pub use Rattle.farm_nodes_turn.specs.Fault

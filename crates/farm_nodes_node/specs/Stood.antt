@@ -5,13 +5,13 @@ use Rattle.acceptor_log_form.specs.declared.record.Record.{Record}
 use Rattle.acceptor_log_form.specs.Lists.{Begins, Between}
 use Rattle.acceptor_log.specs.declared.log.Log.{Log}
 use Rattle.acceptor_log.specs.Acknowledged.{acknowledged}
-use Rattle.farm_nodes_turn.specs.Fault.{Fault}
-use Rattle.farm_nodes_turn.specs.Halted.{HasHaltCause}
-use Rattle.farm_nodes_turn.specs.Played.{progress_of}
-use Rattle.farm_nodes_turn.specs.Which.{Which}
-use Rattle.farm_nodes_turn.specs.Fours.{Four, words_of}
-use Rattle.farm_nodes_turn.specs.Offers.{ConstantsOffer, ExpressionsOffer, AllocationOffer, OrderOffer}
-use Rattle.farm_nodes_turn.specs.Texts.{Texts, pass_texts}
+use Rattle.farm_nodes_offers.specs.declared.halt.Fault.{Fault}
+use Rattle.farm_nodes_offers.specs.Halted.{HasHaltCause}
+use Rattle.farm_nodes_playing.specs.Played.{progress_of}
+use Rattle.farm_nodes_passes.specs.declared.which.Which.{Which}
+use Rattle.farm_nodes_passes.specs.Fours.{Four, words_of}
+use Rattle.farm_nodes_passes.specs.Offers.{ConstantsOffer, ExpressionsOffer, AllocationOffer, OrderOffer}
+use Rattle.farm_nodes_passes.specs.Texts.{Texts, pass_texts}
 use Rattle.farm_nodes_node.specs.declared.halted.Halted.{Halted}
 use Rattle.farm_nodes_node.specs.declared.turn.Turn.{Turn}
 use Rattle.farm_nodes_node.specs.Held.{IsJournalOf, pending_in}

@@ -1,8 +1,8 @@
 -- What a turn of a node tells.
 use Rattle.std.specs.Prelude.{Option, Some, None}
-use Rattle.farm_nodes_turn.specs.Fault.{Fault}
-use Rattle.farm_nodes_turn.specs.Progress.{Progress}
-use Rattle.farm_nodes_turn.specs.Progress.TheVariants as progress
+use Rattle.farm_nodes_offers.specs.declared.halt.Fault.{Fault}
+use Rattle.farm_nodes_playing.specs.declared.progress.Progress.{Progress}
+use Rattle.farm_nodes_playing.specs.declared.progress.Progress.TheVariants as progress
 use Rattle.farm_nodes_node.specs.declared.turn.Turn.{Turn}
 use Rattle.farm_nodes_node.specs.declared.turn.Turn.TheVariants.{Learned, Moved, Idle, Failed}
 

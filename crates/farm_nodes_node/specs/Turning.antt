@@ -6,10 +6,10 @@ use Rattle.durable_model.specs.declared.disk.Disk as disks
 use Rattle.acceptor_log_form.specs.declared.errors.LogError.TheVariants as journal
 use Rattle.rtl_language.specs.Function.{FunctionData}
 use Rattle.rooms_hall.specs.declared.hall.Naming as naming
-use Rattle.farm_nodes_turn.specs.Fault.TheVariants as faults
-use Rattle.farm_nodes_turn.specs.Fours.{four_of, fours_of, Four}
-use Rattle.farm_nodes_turn.specs.Numbers.{function_of, pass_of}
-use Rattle.farm_nodes_turn.specs.Offers.{ConstantsOffer, ExpressionsOffer, AllocationOffer, OrderOffer}
+use Rattle.farm_nodes_offers.specs.declared.halt.Fault.TheVariants as faults
+use Rattle.farm_nodes_passes.specs.Fours.{four_of, fours_of, Four}
+use Rattle.farm_nodes_passes.specs.Numbers.{function_of, pass_of}
+use Rattle.farm_nodes_passes.specs.Offers.{ConstantsOffer, ExpressionsOffer, AllocationOffer, OrderOffer}
 use Rattle.farm_nodes_turn.specs.Turned.{IsTooLargeFor, Leaves, StandsAfter}
 use Rattle.farm_nodes_turn.specs.Turns.{AtPlace, OfFunction}
 use Rattle.farm_nodes_node.specs.declared.farm_node.FarmNode.{FarmNode}

@@ -1,8 +1,8 @@
 -- What a stopped node has not done.
 use Rattle.std.specs.Prelude.{List, Option, Some, None}
 use Rattle.rooms_hall.specs.declared.hall.Naming as naming
-use Rattle.farm_nodes_turn.specs.NumberedSeat.{NumberedSeat}
-use Rattle.farm_nodes_turn.specs.Pending.{HavePending}
+use Rattle.rooms_numbered.specs.declared.seat.NumberedSeat.{NumberedSeat}
+use Rattle.farm_nodes_passes.specs.Pending.{HavePending}
 use Rattle.farm_nodes_node.specs.declared.halted.Halted.{Halted}
 
 module _ {H : Type 0} {h : naming.Ghosts H} where

@@ -3,7 +3,7 @@ ghost use Rattle.std.specs.Arc.{arc_value};
 
 use crate::halted::Halted;
 use acceptor_log::Log;
-use farm_nodes_turn::NumberedSeat;
+use rooms_numbered::NumberedSeat;
 use lang_base::Program;
 use rand_pcg::Pcg32;
 use rooms_hall::Naming;

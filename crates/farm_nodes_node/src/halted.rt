@@ -1,4 +1,4 @@
-use farm_nodes_turn::Halt;
+use farm_nodes_offers::Halt;
 
 /// What stopped a node, and in which room: the turn there failed.
 #[derive(Drop)]

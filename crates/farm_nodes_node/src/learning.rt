@@ -1,7 +1,8 @@
 ghost use Rattle.std.specs.Prelude.{◌≡◌};
-ghost use Rattle.farm_nodes_turn.specs.Fours.{four_of, words_of};
+ghost use Rattle.farm_nodes_passes.specs.Fours.{four_of, words_of};
 
-use farm_nodes_turn::{NumberedSeat, Which};
+use rooms_numbered::NumberedSeat;
+use farm_nodes_passes::Which;
 use rooms_hall::Naming;
 
 /// The value that the node has learned in the room of one pass of the function.

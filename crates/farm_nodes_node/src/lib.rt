@@ -9,6 +9,5 @@ mod node;
 mod turn;
 
 pub use farm_node::FarmNode;
-pub use farm_nodes_turn::{Fault, Halt, NumberedSeat, Oracles, Which};
 pub use halted::Halted;
 pub use turn::Turn;

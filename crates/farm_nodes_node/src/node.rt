@@ -4,15 +4,17 @@ use crate::farm_node::FarmNode;
 use crate::halted::Halted;
 use crate::learning::learned_in;
 use crate::turn::Turn;
-use acceptor_log::LogError;
+use acceptor_log_form::LogError;
 use durable_model::Disk;
-use farm_nodes_turn::{Fault, Oracles, Which, function_in, turn_in};
+use farm_nodes_offers::Fault;
+use farm_nodes_passes::{Oracles, Which};
+use farm_nodes_turn::{function_in, turn_in};
 use rooms_hall::Naming;
 
 impl<D: Disk, O: Oracles, H: Naming> FarmNode<D, O, H> {
     ghost use Rattle.std.specs.Prelude.{◌≡◌, ◌≢◌, ◌<◌, None, length};
-    ghost use Rattle.farm_nodes_turn.specs.Served.{IsServed};
-    ghost use Rattle.farm_nodes_turn.specs.Numbers.{function_of};
+    ghost use Rattle.farm_nodes_acting.specs.Served.{IsServed};
+    ghost use Rattle.farm_nodes_passes.specs.Numbers.{function_of};
     ghost use Rattle.farm_nodes_node.specs.Asked.{MayBeAsked};
     ghost use Rattle.farm_nodes_node.specs.Turning.{DoesNothing, JournalTurns, LeavesRoom, StaysElsewhere, TellsTurn};
 
@@ -59,8 +61,8 @@ impl<D: Disk, O: Oracles, H: Naming> FarmNode<D, O, H> {
 
 impl<D: Disk, O, H: Naming> FarmNode<D, O, H> {
     ghost use Rattle.std.specs.Prelude.{◌≡◌, ◌<◌, length, option_copied};
-    ghost use Rattle.farm_nodes_turn.specs.Numbers.{function_of, pass_of};
-    ghost use Rattle.farm_nodes_turn.specs.Fours.{four_of, words_of};
+    ghost use Rattle.farm_nodes_passes.specs.Numbers.{function_of, pass_of};
+    ghost use Rattle.farm_nodes_passes.specs.Fours.{four_of, words_of};
     ghost use Rattle.farm_nodes_node.specs.Held.{fault_in};
     ghost use Rattle.farm_nodes_node.specs.Stood.{At};
 

@@ -1,7 +1,8 @@
 ghost use Rattle.std.specs.Prelude.{◌≡◌};
 ghost use Rattle.farm_nodes_node.specs.Told.{turn_of};
 
-use farm_nodes_turn::{Fault, Progress};
+use farm_nodes_offers::Fault;
+use farm_nodes_playing::Progress;
 
 /// What a turn of a node brought.
 #[derive(Clone, Copy, Debug, PartialEq, Eq)]

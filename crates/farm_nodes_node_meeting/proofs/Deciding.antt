@@ -4,7 +4,7 @@ use Rattle.std.proofs.lemmas.Bool.{cases_eq}
 use Rattle.atomic_table.specs.Seated.{TableId}
 use Rattle.rooms.specs.SeatValue.{SeatValue, IsOneRoom}
 use Rattle.rooms_cells.specs.Seen.{names_of}
-use Rattle.rooms_seat.specs.RoomAt.{RoomAt}
+use Rattle.rooms_table.specs.RoomAt.{RoomAt}
 use Rattle.rooms_crash.specs.OfRun.{IsOfRun}
 use Rattle.rooms_crash.proofs.Keeping.{met_of_run}
 use Rattle.farm_nodes_seat_meeting.specs.Rooms.{MetIn}

@@ -10,17 +10,17 @@ use Rattle.acceptor_log.specs.declared.log.Log.{Log}
 use Rattle.rooms.specs.SeatValue.{SeatValue}
 use Rattle.rooms_cells.specs.Seen.{SightOf, value_at}
 use Rattle.rooms_seat.specs.Meeting.{Remains}
-use Rattle.rooms_seat.specs.SeatState.{SeatState}
+use Rattle.rooms_state.specs.SeatState.{SeatState}
 use Rattle.farm_nodes_order.proofs.Orders.{IsSameNode}
 use Rattle.farm_nodes_acting.specs.JournalAdvances.{AreOf}
-use Rattle.farm_nodes_seat_meeting.specs.Numbers.{function_of, pass_of}
-use Rattle.farm_nodes_seat_meeting.specs.Fours.{Four, words_of}
-use Rattle.farm_nodes_seat_meeting.specs.Leaves.{Leave}
-use Rattle.farm_nodes_node.specs.Texts.{Texts, IsOwnTextIn}
-use Rattle.farm_nodes_seat_meeting.specs.Told.{IsOwnText}
-use Rattle.farm_nodes_seat_meeting.specs.Which.{Which}
-use Rattle.farm_nodes_seat_meeting.specs.Which.TheVariants.{Constants, Expressions, Allocation, Order}
-use Rattle.farm_nodes_node.proofs.Places.{found, mapped, map_at, map_length}
+use Rattle.farm_nodes_passes.specs.Numbers.{function_of, pass_of}
+use Rattle.farm_nodes_passes.specs.Fours.{Four, words_of}
+use Rattle.farm_nodes_passes.specs.Leaves.{Leave}
+use Rattle.farm_nodes_passes.specs.Texts.{Texts, IsOwnTextIn}
+use Rattle.farm_nodes_offers.specs.Told.{IsOwnText}
+use Rattle.farm_nodes_passes.specs.declared.which.Which.{Which}
+use Rattle.farm_nodes_passes.specs.declared.which.Which.TheVariants.{Constants, Expressions, Allocation, Order}
+use Rattle.farm_nodes_turn.proofs.Places.{found, mapped, map_at, map_length}
 use Rattle.farm_nodes_node.specs.declared.halted.Halted.{Halted}
 use Rattle.farm_nodes_node.specs.Held.{AreOfRuns, AreSeatsOf, AreUnproposed, IsSoundBy}
 use Rattle.farm_nodes_node_meeting.proofs.Deciding.{first_of_run, second_of_run}

@@ -3,7 +3,7 @@ use Rattle.std.specs.Prelude.{◌≡◌, ◌≢◌, ◌⊎◌, ℕ, None}
 use Rattle.durable_model.specs.declared.disk.Disk as disks
 use Rattle.rooms_hall.specs.declared.hall.Naming as naming
 use Rattle.farm_nodes_node.specs.declared.farm_node.FarmNode.{FarmNode}
-use Rattle.farm_nodes_node.specs.Fours.{fours_of}
+use Rattle.farm_nodes_passes.specs.Fours.{fours_of}
 use Rattle.farm_nodes_node.specs.Held.{IsSoundNode}
 use Rattle.farm_nodes_node.specs.Waiting.{IsWaiting}
 use Rattle.farm_nodes_seat_meeting.specs.Held.{held_of}

@@ -8,18 +8,18 @@ use Rattle.acceptor_log_form.specs.declared.record.Record.TheVariants.{Offered}
 use Rattle.acceptor_log_form.specs.Text.{room_of}
 use Rattle.acceptor_log_form.specs.Leaves.{kept_by, proposed_by}
 use Rattle.acceptor_log_form.specs.Order.{GoesOn}
-use Rattle.farm_nodes_acting.specs.Log.{Log}
-use Rattle.farm_nodes_acting.specs.Acknowledged.{acknowledged, IsReady}
-use Rattle.farm_nodes_acting.specs.SeatState.{SeatState}
+use Rattle.acceptor_log.specs.declared.log.Log.{Log}
+use Rattle.acceptor_log.specs.Acknowledged.{acknowledged, IsReady}
+use Rattle.rooms_state.specs.SeatState.{SeatState}
 use Rattle.rooms.specs.SeatValue.{SeatValue, offer_of}
 use Rattle.farm_nodes_acting.specs.Cause.{HasCause}
-use Rattle.farm_nodes_acting.specs.Ordered.{IsUnproposed}
-use Rattle.farm_nodes_acting.proofs.Orders.{Follows}
+use Rattle.farm_nodes_order.specs.Ordered.{IsUnproposed}
+use Rattle.farm_nodes_order.proofs.Orders.{Follows}
 use Rattle.farm_nodes_acting.proofs.Results.{Grown}
 use Rattle.farm_nodes_acting.proofs.Runs.{none, then}
 use Rattle.farm_nodes_acting.proofs.Steps.{no_more}
 use Rattle.farm_nodes_acting.specs.JournalAdvances.{JournalAdvances}
-use Rattle.farm_nodes_acting.proofs.Told.{offer_own, offer_stays}
+use Rattle.farm_nodes_order.proofs.Told.{offer_own, offer_stays}
 use Rattle.farm_nodes_offers.specs.Halted.{HasLeft, HasHaltCause, fault_by_journal}
 use Rattle.farm_nodes_offers.specs.Told.{offer_by, offer_in, IsOwnText, TellNew}
 use Rattle.farm_nodes_offers.specs.Offered.{PutsOffer}

@@ -5,9 +5,9 @@ use Rattle.acceptor_log_form.specs.declared.errors.LogError.{LogError}
 use Rattle.acceptor_log_form.specs.declared.errors.LogError.TheVariants as log
 use Rattle.acceptor_log_form.specs.declared.record.Record.{Record}
 use Rattle.acceptor_log_form.specs.Refusals as journal
-use Rattle.farm_nodes_acting.specs.Log.{Log}
-use Rattle.farm_nodes_acting.specs.Acknowledged.{acknowledged}
-use Rattle.farm_nodes_acting.specs.SeatState.{SeatState}
+use Rattle.acceptor_log.specs.declared.log.Log.{Log}
+use Rattle.acceptor_log.specs.Acknowledged.{acknowledged}
+use Rattle.rooms_state.specs.SeatState.{SeatState}
 use Rattle.farm_nodes_acting.specs.declared.stop.Pending.{Pending}
 use Rattle.farm_nodes_acting.specs.JournalAdvances.{JournalAdvances}
 use Rattle.farm_nodes_acting.specs.Cause.{HasCause}

@@ -5,8 +5,8 @@ use Rattle.lang_base.specs.declared.language.Language as language
 use Rattle.lang_base.specs.declared.pass.Pass as pass
 use Rattle.offers.specs.declared.parts.Parts.{Parts}
 use Rattle.offers.specs.Text.{text_of}
-use Rattle.farm_nodes_acting.specs.Log.{Log}
-use Rattle.farm_nodes_acting.specs.Acknowledged.{WhileGoing}
+use Rattle.acceptor_log.specs.declared.log.Log.{Log}
+use Rattle.acceptor_log.specs.Acknowledged.{WhileGoing}
 use Rattle.rooms.specs.SeatValue.{SeatValue}
 use Rattle.farm_nodes_acting.specs.declared.stop.Pending.{Pending}
 use Rattle.farm_nodes_offers.specs.declared.halt.Halt.{Halt}

@@ -6,8 +6,8 @@ use Rattle.offers.specs.declared.parts.Parts.{Parts}
 use Rattle.offers.specs.Text.{text_of, PartsFit}
 use Rattle.acceptor_log_form.specs.declared.record.Record.{Record}
 use Rattle.acceptor_log_form.specs.declared.record.Record.TheVariants.{Offered}
-use Rattle.farm_nodes_acting.specs.SeatState.{SeatState}
-use Rattle.farm_nodes_acting.specs.Would.{IsAmong}
+use Rattle.rooms_state.specs.SeatState.{SeatState}
+use Rattle.rooms_state.specs.Would.{IsAmong}
 use Rattle.rooms.specs.SeatValue.{SeatValue}
 use Rattle.farm_nodes_acting.specs.declared.stop.Pending.{Pending}
 use Rattle.farm_nodes_acting.specs.declared.stop.Pending.TheVariants.{Act, Offer}

@@ -2,9 +2,9 @@
 use Rattle.std.specs.Prelude.{◌≡◌, ℕ, ◌<◌, true, false, List, Some}
 use Rattle.acceptor_log_form.specs.declared.record.Record.{Record}
 use Rattle.rooms.specs.SeatValue.{SeatValue, offer_of}
-use Rattle.farm_nodes_acting.specs.SeatState.{SeatState}
-use Rattle.farm_nodes_acting.specs.Ordered.{AreOrdered}
-pub use Rattle.farm_nodes_acting.specs.OfferIn.{offer_by, offer_in, IsToldAs}
+use Rattle.rooms_state.specs.SeatState.{SeatState}
+use Rattle.farm_nodes_order.specs.Ordered.{AreOrdered}
+pub use Rattle.farm_nodes_order.specs.OfferIn.{offer_by, offer_in, IsToldAs}
 
 -- these bytes are the text of the offer that stands in the cell of the seat's own node
 abbrev pub IsOwnText : {T : Type 0} → (List ℕ → T → Type 0) → SeatValue T → List ℕ → Type 0

@@ -2,7 +2,8 @@ ghost use Rattle.std.specs.Prelude.{◌≡◌, Some, None};
 ghost use Rattle.farm_nodes_acting.specs.declared.stop.Pending.TheVariants as waiting;
 ghost use Rattle.farm_nodes_offers.specs.Halted.{fault_by_journal, number_of};
 
-use farm_nodes_acting::{LogError, Pending, Record, Stop};
+use acceptor_log_form::{LogError, Record};
+use farm_nodes_acting::{Pending, Stop};
 
 /// Why a node halted. `number` is what a user is shown.
 #[derive(Clone, Copy, Debug, PartialEq, Eq)]

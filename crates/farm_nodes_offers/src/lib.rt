@@ -5,7 +5,5 @@
 mod halt;
 mod making;
 
-pub use farm_nodes_acting::{Pending, record_of};
 pub use halt::{Fault, Halt};
 pub use making::make_offer;
-pub use rooms::Seat;

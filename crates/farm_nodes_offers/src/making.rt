@@ -2,7 +2,7 @@ ghost use Rattle.std.specs.Prelude.{◌≡◌, ◌⊎◌, true, false, IfOk, IfE
 ghost use Rattle.std.specs.Arc.{arc_value};
 ghost use Rattle.offers.specs.Text.{text_of};
 ghost use Rattle.acceptor_log_form.specs.declared.record.Record.TheVariants as entry;
-ghost use Rattle.farm_nodes_acting.specs.Acknowledged.{IsSound, WhileGoing};
+ghost use Rattle.acceptor_log.specs.Acknowledged.{IsSound, WhileGoing};
 ghost use Rattle.farm_nodes_acting.specs.Served.{IsServed};
 ghost use Rattle.rooms.specs.SeatValue.{IsOneRoom};
 ghost use Rattle.farm_nodes_offers.specs.Halted.{HaltsFor, IsPutDown};
@@ -11,10 +11,12 @@ ghost use Rattle.farm_nodes_offers.specs.Offered.{PutsOffer};
 
 use crate::halt::{Fault, Halt};
 use durable_model::Disk;
-use farm_nodes_acting::{Log, Record};
+use acceptor_log::Log;
+use acceptor_log_form::Record;
 use lang_base::{NoMemory, Pass, Row};
 use offers::Offer;
-use rooms::{Put, Seat};
+use rooms_cells::Put;
+use rooms::Seat;
 use std::alloc::Global;
 use std::sync::Arc;
 

@@ -12,7 +12,7 @@ use Rattle.acceptor_log_form.specs.declared.errors.LogError.TheVariants.{NoMemor
 use Rattle.acceptor_log_form.specs.declared.record.Record.{Record}
 use Rattle.acceptor_log.specs.declared.log.Log.{Log}
 use Rattle.farm_nodes_disks.specs.Journals.{header_of, AreOpened, IsRefused, IsRefusedAt}
-use Rattle.farm_nodes_seated.specs.Nodes.{AreMade}
+use Rattle.farm_nodes_stored.specs.Nodes.{AreMade}
 use Rattle.farm_nodes_opened.specs.Back.{IsBack}
 use Rattle.farm_nodes_seated.proofs.Lists.{map_at}
 

@@ -24,30 +24,30 @@ use Rattle.ltl.specs.contracts.language.LtlLanguage.TheImpl as ltl_language
 use Rattle.linear_language.specs.contracts.language.LinearLanguage.TheImpl as linear_language
 use Rattle.constprop_check.specs.contracts.pass.ConstPropPass.TheImpl as constants
 use Rattle.cse_check.specs.contracts.pass.CsePass.TheImpl as expressions
-use Rattle.farm_nodes_seated.specs.AllocPass.TheImpl as allocation
+use Rattle.alloc_check.specs.contracts.pass.AllocPass.TheImpl as allocation
 use Rattle.linearize_check.specs.contracts.pass.LinearizePass.TheImpl as order
 use Rattle.rooms_hall.specs.Claimed.{Claimed}
 use Rattle.rooms_hall.specs.declared.hall.Naming as naming
 use Rattle.farm_nodes_acting.specs.JournalAdvances.{AreOf}
 use Rattle.farm_nodes_acting.proofs.Rooms.{none_of_others, of_rooms}
-use Rattle.farm_nodes_seated.specs.Fours.{Four, four_of, fours_of, words_of}
-use Rattle.farm_nodes_seated.specs.Leaves.{Leave}
-use Rattle.farm_nodes_joining.specs.Texts.{pass_texts, IsOwnTextIn}
-use Rattle.farm_nodes_seated.specs.Told.{IsOwnText, IsToldAs}
-use Rattle.farm_nodes_seated.specs.FarmNodesOffersPending.{IsOfferText}
-use Rattle.farm_nodes_seated.specs.Written.{offer_in}
-use Rattle.farm_nodes_seated.specs.Numbers.{function_of, pass_at, pass_of, place_of, room_at}
-use Rattle.farm_nodes_seated.specs.Offers.{ConstantsOffer, ExpressionsOffer, AllocationOffer, OrderOffer}
-use Rattle.farm_nodes_seated.specs.NumberedSeat.{NumberedSeat}
-use Rattle.farm_nodes_seated.specs.Which.{Which}
-use Rattle.farm_nodes_seated.specs.Which.TheVariants.{Constants, Expressions, Allocation, Order}
+use Rattle.farm_nodes_passes.specs.Fours.{Four, four_of, fours_of, words_of}
+use Rattle.farm_nodes_passes.specs.Leaves.{Leave}
+use Rattle.farm_nodes_passes.specs.Texts.{pass_texts, IsOwnTextIn}
+use Rattle.farm_nodes_offers.specs.Told.{IsOwnText, IsToldAs}
+use Rattle.farm_nodes_offers.specs.Pending.{IsOfferText}
+use Rattle.farm_nodes_records.specs.Written.{offer_in}
+use Rattle.farm_nodes_passes.specs.Numbers.{function_of, pass_at, pass_of, place_of, room_at}
+use Rattle.farm_nodes_passes.specs.Offers.{ConstantsOffer, ExpressionsOffer, AllocationOffer, OrderOffer}
+use Rattle.rooms_numbered.specs.declared.seat.NumberedSeat.{NumberedSeat}
+use Rattle.farm_nodes_passes.specs.declared.which.Which.{Which}
+use Rattle.farm_nodes_passes.specs.declared.which.Which.TheVariants.{Constants, Expressions, Allocation, Order}
 use Rattle.farm_nodes_lists.specs.Rows.{rows_of}
-use Rattle.farm_nodes_seated.specs.Opened.{AreOpenedIn}
-use Rattle.farm_nodes_seated.proofs.Seated.{seat_of_run, seat_offers, seat_opens}
-use Rattle.farm_nodes_seated.proofs.Texts.{offer_told}
+use Rattle.farm_nodes_functions.specs.Opened.{AreOpenedIn}
+use Rattle.farm_nodes_functions.proofs.Seated.{seat_of_run, seat_offers, seat_opens}
+use Rattle.farm_nodes_stored.proofs.Texts.{offer_told}
 use Rattle.farm_nodes_disks.specs.Journals.{AreOpened, IsOpened, header_of}
-use Rattle.farm_nodes_seated.specs.Read.{AreKept}
-use Rattle.farm_nodes_joining.specs.Held.{AreOfRuns, AreSeatsOf, AreUnproposed}
+use Rattle.farm_nodes_stored.specs.Read.{AreKept}
+use Rattle.farm_nodes_node.specs.Held.{AreOfRuns, AreSeatsOf, AreUnproposed}
 use Rattle.rooms_crash.specs.OfRun.{IsOfRun}
 use Rattle.farm_nodes_joining.specs.Joined.{AreHeld, IsHeld}
 use Rattle.farm_nodes_seated.specs.Seated.{AreSeated, AreSeatedIn, constants_seat, expressions_seat, allocation_seat, order_seat}

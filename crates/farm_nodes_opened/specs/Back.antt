@@ -10,7 +10,7 @@ use Rattle.acceptor_log_form.specs.declared.record.Record.{Record}
 use Rattle.acceptor_log.specs.declared.log.Log.{Log}
 use Rattle.farm_nodes_disks.specs.Journals.{header_of, IsOpened, IsRefused}
 use Rattle.farm_nodes_disks.specs.declared.refused.RefusedPair.{RefusedPair}
-use Rattle.farm_nodes_seated.specs.Nodes.{AreMade}
+use Rattle.farm_nodes_stored.specs.Nodes.{AreMade}
 
 module _ {D : Type 0} (disk : disks.Ghosts D) (pair : pairs.Ghosts D) (q : Sizes) (digest : List ℕ) where
   -- it is the journal of node i on the pair that was given

@@ -2,11 +2,3 @@ pub mod Back
 pub mod OpenNodes
 pub mod Refused
 pub mod Opened
-pub use Rattle.farm_nodes_joining.specs.FarmNode
-pub use Rattle.farm_nodes_joining.specs.FarmNodes
-pub use Rattle.farm_nodes_joining.specs.Held
-pub use Rattle.farm_nodes_joining.specs.Waiting
-pub use Rattle.farm_nodes_joining.specs.Words
-pub use Rattle.farm_nodes_seated.specs.Nodes
-pub use Rattle.farm_nodes_seated.specs.RoomFault
-pub use Rattle.farm_nodes_seated.specs.declared.fault.OpenFault

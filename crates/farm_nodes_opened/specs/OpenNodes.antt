@@ -6,7 +6,7 @@ use Rattle.lang_base.specs.declared.program.Program.{Program}
 use Rattle.rtl_language.specs.Function.{FunctionData}
 use Rattle.paxos_core_world.specs.Quorum.{Sizes}
 use Rattle.rooms_hall.specs.declared.hall.Naming as naming
-use Rattle.farm_nodes_joining.specs.FarmNode.{FarmNode}
+use Rattle.farm_nodes_node.specs.declared.farm_node.FarmNode.{FarmNode}
 use Rattle.farm_nodes_opened.specs.Back.{AreJournalsOn}
 use Rattle.farm_nodes_opened.specs.Opened.{AreOpenFromJournals}
 

@@ -8,7 +8,7 @@ use Rattle.ltl.specs.contracts.language.LtlLanguage.TheImpl as ltl_language
 use Rattle.linear_language.specs.contracts.language.LinearLanguage.TheImpl as linear_language
 use Rattle.constprop_check.specs.contracts.pass.ConstPropPass.TheImpl as constants
 use Rattle.cse_check.specs.contracts.pass.CsePass.TheImpl as expressions
-use Rattle.farm_nodes_seated.specs.AllocPass.TheImpl as allocation
+use Rattle.alloc_check.specs.contracts.pass.AllocPass.TheImpl as allocation
 use Rattle.linearize_check.specs.contracts.pass.LinearizePass.TheImpl as order
 use Rattle.paxos_core_world.specs.KeptPart.{KeptPart}
 use Rattle.paxos_core_world.specs.Quorum.{Sizes}
@@ -18,15 +18,15 @@ use Rattle.offers.specs.declared.parts.Parts.{Parts}
 use Rattle.rooms.specs.SeatValue.{SeatValue}
 use Rattle.rooms_hall.specs.Claimed.{Claimed}
 use Rattle.rooms_hall.specs.declared.hall.Naming as naming
-use Rattle.farm_nodes_seated.specs.NumberedSeat.{NumberedSeat}
-use Rattle.farm_nodes_seated.specs.Which.{Which}
-use Rattle.farm_nodes_seated.specs.Which.TheVariants.{Constants, Expressions, Allocation, Order}
+use Rattle.rooms_numbered.specs.declared.seat.NumberedSeat.{NumberedSeat}
+use Rattle.farm_nodes_passes.specs.declared.which.Which.{Which}
+use Rattle.farm_nodes_passes.specs.declared.which.Which.TheVariants.{Constants, Expressions, Allocation, Order}
 use Rattle.farm_nodes_lists.specs.Rows.{rows_of}
-use Rattle.farm_nodes_seated.specs.Kept.{AreSettled}
-use Rattle.farm_nodes_seated.specs.Opened.{AreOpenedIn}
-use Rattle.farm_nodes_seated.specs.Nodes.{AreMade}
-use Rattle.farm_nodes_seated.specs.Read.{AreKept}
-use Rattle.farm_nodes_seated.specs.Checked.{AreOffers}
+use Rattle.farm_nodes_function_rooms.specs.Kept.{AreSettled}
+use Rattle.farm_nodes_functions.specs.Opened.{AreOpenedIn}
+use Rattle.farm_nodes_stored.specs.Nodes.{AreMade}
+use Rattle.farm_nodes_stored.specs.Read.{AreKept}
+use Rattle.farm_nodes_stored.specs.Checked.{AreOffers}
 use Rattle.farm_nodes_seated.specs.Seated.{constants_seat, expressions_seat, allocation_seat, order_seat}
 
 module _ {D : Type 0} (is_honest : D → Type 0) (seen : D → List ℕ) (q : Sizes) (functions : ℕ) (logs : List (Log D)) where

@@ -11,7 +11,7 @@ use Rattle.acceptor_log_form.specs.declared.errors.LogError.TheVariants.{BadReco
 use Rattle.acceptor_log_form.specs.declared.record.Record.{Record}
 use Rattle.acceptor_log.specs.declared.log.Log.{Log}
 use Rattle.farm_nodes_disks.specs.Journals.{header_of, AreOpened, IsRefused}
-use Rattle.farm_nodes_seated.specs.RoomFault.{RoomFault}
+use Rattle.farm_nodes_function_rooms.specs.declared.fault.RoomFault.{RoomFault}
 use Rattle.farm_nodes_seated.specs.Refused.{HasBadRecord, HasRefusedOffer, IsRoomUnopened}
 use Rattle.farm_nodes_seated.specs.declared.fault.OpenFault.{OpenFault}
 use Rattle.farm_nodes_seated.specs.declared.fault.OpenFault.TheVariants.{Journal, Refused, Room}

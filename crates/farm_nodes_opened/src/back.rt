@@ -1,7 +1,8 @@
 ghost use Rattle.std.specs.Prelude.{◌≡◌, ◌≤◌, ◌+◌, ◌++◌, length, map, option_to_list, vec_capacity};
 ghost use Rattle.farm_nodes_opened.specs.Back.{HasCapacityForAll, with_all_of};
 
-use acceptor_log::{Log, Record};
+use acceptor_log::Log;
+use acceptor_log_form::Record;
 use durable_model::Disk;
 use durable_pair::Pair;
 use farm_nodes_disks::RefusedPair;

@@ -5,6 +5,4 @@
 mod back;
 mod opening;
 
-pub use farm_nodes_joining::{FarmNode, Halted, Turn};
-pub use farm_nodes_seated::{OpenFault, RoomFault};
 pub use opening::open_nodes;

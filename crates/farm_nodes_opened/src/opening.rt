@@ -1,7 +1,7 @@
 ghost use Rattle.std.specs.Prelude.{◌≡◌, ◌<◌, None, All, length, map, IfOk, IfErr};
 ghost use Rattle.std.specs.Arc.{arc_value};
 ghost use Rattle.farm_nodes_joining.specs.FarmNodes.{AllCompile, HasSoundJournal};
-ghost use Rattle.farm_nodes_joining.specs.Waiting.{IsWaiting};
+ghost use Rattle.farm_nodes_node.specs.Waiting.{IsWaiting};
 ghost use Rattle.farm_nodes_joining.specs.Words.{generators};
 ghost use Rattle.farm_nodes_opened.specs.Back.{AllComeBack};
 ghost use Rattle.farm_nodes_opened.specs.OpenNodes.{HaveJournalsOn, HaveOpenRooms};
@@ -10,10 +10,11 @@ ghost use Rattle.farm_nodes_opened.specs.Refused.{TellsJournal, TellsOffer, Tell
 use crate::back::{with_disks, with_refused};
 use durable_pair::Pair;
 use farm_nodes_disks::open_journals;
-use farm_nodes_joining::{FarmNode, join_nodes};
+use farm_nodes_node::FarmNode;
+use farm_nodes_joining::join_nodes;
 use farm_nodes_seated::{OpenFault, seats_of};
 use lang_base::Program;
-use paxos_core::Quorums;
+use paxos_core_world::quorum::Quorums;
 use rooms_hall::{Hall, Naming};
 use rtl_language::Function;
 use std::alloc::Global;

@@ -1,11 +1,11 @@
 -- A look at a word leaves of the seat's node all but its notes.
 use Rattle.std.proofs.Common.{ℕ, ap, ◌∙◌}
-use Rattle.rooms_seat.proofs.Looked.{proposed_hearing}
-use Rattle.rooms_seat.specs.AcceptorWord.{AcceptorWord}
-use Rattle.rooms_seat.specs.ProposerWord.{ProposerWord}
-use Rattle.rooms_seat.specs.Did.{LookedAtProposer, LookedAtAcceptor}
-use Rattle.rooms_seat.specs.SeatState.{SeatState}
-use Rattle.rooms_seat.proofs.Told.{notes_of}
+use Rattle.rooms_met.proofs.Looked.{proposed_hearing}
+use Rattle.rooms_rule.specs.declared.acceptor.AcceptorWord.{AcceptorWord}
+use Rattle.rooms_rule.specs.declared.proposer.ProposerWord.{ProposerWord}
+use Rattle.rooms_state.specs.Did.{LookedAtProposer, LookedAtAcceptor}
+use Rattle.rooms_state.specs.SeatState.{SeatState}
+use Rattle.rooms_state.proofs.Told.{notes_of}
 use Rattle.farm_nodes_order.proofs.Orders.{IsSameNode}
 
 pub looked_proposer : (j : ℕ) (x : ProposerWord) (s t : SeatState) → LookedAtProposer j x s t → IsSameNode s t

@@ -22,13 +22,13 @@ use Rattle.acceptor_log_form.specs.declared.record.Record.TheVariants.{Offered, 
 use Rattle.acceptor_log_form.specs.Text.{room_of}
 use Rattle.acceptor_log_form.specs.Leaves.{kept_by, kept_in, proposed_by, proposed_in}
 use Rattle.acceptor_log_form.specs.Order.{GoesOn, MayFollow, AreInOrder}
-use Rattle.rooms_seat.proofs.Acts.{may_promise, vote_seen}
-use Rattle.rooms_seat.specs.Act.{Act}
-use Rattle.rooms_seat.specs.Act.TheVariants as act
-use Rattle.rooms_seat.specs.Did.{Did}
+use Rattle.rooms_state.proofs.Acts.{may_promise, vote_seen}
+use Rattle.rooms_state.specs.declared.act.Act.{Act}
+use Rattle.rooms_state.specs.declared.act.Act.TheVariants as act
+use Rattle.rooms_state.specs.Did.{Did}
 use Rattle.rooms_seat.specs.Meeting.{IsBounded}
-use Rattle.rooms_seat.specs.SeatState.{SeatState, proposer_of, promise_of, vote_of}
-use Rattle.rooms_seat.specs.Would.{would, act_of, proposed_by_step, IsStarted, IsAmong, Acted}
+use Rattle.rooms_state.specs.SeatState.{SeatState, proposer_of, promise_of, vote_of}
+use Rattle.rooms_state.specs.Would.{would, act_of, proposed_by_step, IsStarted, IsAmong, Acted}
 use Rattle.farm_nodes_order.specs.Recorded.{record_of}
 use Rattle.farm_nodes_order.specs.Ordered.{AreOrdered, IsUnproposed}
 use Rattle.farm_nodes_order.proofs.Records.{kept_own, kept_other, proposed_own, proposed_other, room_of_step}

@@ -1,10 +1,3 @@
 pub mod Recorded
 pub mod Ordered
 pub mod OfferIn
-pub use Rattle.rooms_seat.specs.AcceptorWord
-pub use Rattle.rooms_seat.specs.Act
-pub use Rattle.rooms_seat.specs.Did
-pub use Rattle.rooms_seat.specs.Meeting
-pub use Rattle.rooms_seat.specs.ProposerWord
-pub use Rattle.rooms_seat.specs.SeatState
-pub use Rattle.rooms_seat.specs.Would

@@ -3,7 +3,7 @@ use Rattle.std.specs.Prelude.{◌≡◌, ◌≢◌, ℕ, false, List, Some}
 use Rattle.acceptor_log_form.specs.declared.record.Record.{Record}
 use Rattle.acceptor_log_form.specs.Leaves.{kept_in, proposed_in}
 use Rattle.acceptor_log_form.specs.Order.{AreInOrder}
-use Rattle.rooms_seat.specs.SeatState.{SeatState}
+use Rattle.rooms_state.specs.SeatState.{SeatState}
 
 -- under the ballot under which the node may still propose it has not proposed last
 abbrev pub IsUnproposed : ℕ → SeatState → Type 0

@@ -2,4 +2,3 @@
 //! done. Definitions and lemmas alone, on which the calls of a node stand.
 #![tactic(auto)]
 
-pub use rooms_seat::{WordSeat, act};

@@ -5,7 +5,7 @@ ghost use Rattle.durable_model.specs.Honest.{Only, Risen};
 ghost use Rattle.acceptor_log.specs.Faults.{log_fault};
 ghost use Rattle.farm_nodes_pairs.specs.OnPairs.{IsOldDisk, IsSame, LeavesBoth, LeavesOld};
 
-use acceptor_log::LogError;
+use acceptor_log_form::LogError;
 use durable_model::DiskError;
 use durable_pair::Pair;
 use std::alloc::Global;

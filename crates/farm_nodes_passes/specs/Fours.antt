@@ -1,7 +1,7 @@
 -- The values of a node's seats in the four rooms of a function.
 use Rattle.std.specs.Prelude.{List, map}
-use Rattle.farm_nodes_offers.specs.SeatState.{SeatState}
-use Rattle.farm_nodes_offers.specs.SeatValue.{SeatValue}
+use Rattle.rooms_state.specs.SeatState.{SeatState}
+use Rattle.rooms.specs.SeatValue.{SeatValue}
 use Rattle.rooms_hall.specs.Claimed.{Claimed}
 use Rattle.rooms_hall.specs.declared.hall.Naming as naming
 use Rattle.farm_nodes_passes.specs.Offers.{ConstantsOffer, ExpressionsOffer, AllocationOffer, OrderOffer}

@@ -3,7 +3,7 @@ use Rattle.std.specs.Prelude.{◌≡◌, ℕ, ◌≤◌, true, List, [], length,
 use Rattle.paxos_core_world.specs.KeptPart.{nothing_kept}
 use Rattle.acceptor_log_form.specs.declared.record.Record.{Record}
 use Rattle.acceptor_log_form.specs.Leaves.{kept_in}
-use Rattle.farm_nodes_offers.specs.PendingStop.{Pending}
+use Rattle.farm_nodes_acting.specs.declared.stop.Pending.{Pending}
 use Rattle.farm_nodes_offers.specs.Halted.{left_over}
 use Rattle.farm_nodes_offers.specs.Told.{offer_in, IsToldAs}
 use Rattle.farm_nodes_offers.specs.Pending.{IsAsked, IsPendingOn, MayPendOn}

@@ -4,25 +4,3 @@ pub mod Fours
 pub mod Leaves
 pub mod Texts
 pub mod Pending
-pub use Rattle.rooms_numbered.specs.declared.seat.NumberedSeat
-pub use Rattle.rooms_numbered.specs.FunctionOf
-pub use Rattle.rooms_numbered.specs.AllocPass
-pub use Rattle.rooms_numbered.specs.FunctionSeat
-pub use Rattle.rooms_numbered.specs.FunctionMeeting
-pub use Rattle.rooms_numbered.specs.Met
-pub use Rattle.farm_nodes_offers.specs.Halted
-pub use Rattle.farm_nodes_offers.specs.declared.halt.Fault
-pub use Rattle.farm_nodes_offers.specs.declared.halt.Halt
-pub use Rattle.farm_nodes_offers.specs.JournalAdvances
-pub use Rattle.farm_nodes_offers.specs.Quiet
-pub use Rattle.farm_nodes_offers.specs.Served
-pub use Rattle.farm_nodes_offers.specs.PendingStop
-pub use Rattle.farm_nodes_offers.specs.SeatState
-pub use Rattle.rooms_numbered.specs.LinearizePass
-pub use Rattle.rooms_numbered.specs.CsePass
-pub use Rattle.farm_nodes_offers.specs.SeatValue
-pub use Rattle.farm_nodes_offers.specs.Ordered
-pub use Rattle.farm_nodes_offers.specs.Pending as FarmNodesOffersPending
-pub use Rattle.farm_nodes_offers.specs.OfRun
-pub use Rattle.farm_nodes_offers.specs.Told
-pub use Rattle.rooms_numbered.specs.ConstPropPass

@@ -8,13 +8,13 @@ use Rattle.ltl.specs.contracts.language.LtlLanguage.TheImpl as ltl_language
 use Rattle.linear_language.specs.Function as linear
 use Rattle.linear_language.specs.contracts.language.LinearLanguage.TheImpl as linear_language
 use Rattle.rtl_passes_marks.specs.declared.row.NodeRow.{NodeRow}
-use Rattle.rooms_numbered.specs.Fact.{Fact}
-use Rattle.rooms_numbered.specs.ConstPropPass.TheImpl as constants
-use Rattle.rooms_numbered.specs.Equation as expressions_held
-use Rattle.rooms_numbered.specs.CsePass.TheImpl as expressions
-use Rattle.rooms_numbered.specs.AllocCheckEquation as places_held
-use Rattle.rooms_numbered.specs.AllocPass.TheImpl as allocation
-use Rattle.rooms_numbered.specs.LinearizePass.TheImpl as order
+use Rattle.constprop_check_rules.specs.declared.fact.Fact.{Fact}
+use Rattle.constprop_check.specs.contracts.pass.ConstPropPass.TheImpl as constants
+use Rattle.cse_check_rules.specs.declared.equation.Equation as expressions_held
+use Rattle.cse_check.specs.contracts.pass.CsePass.TheImpl as expressions
+use Rattle.alloc_check_rules.specs.declared.equation.Equation as places_held
+use Rattle.alloc_check.specs.contracts.pass.AllocPass.TheImpl as allocation
+use Rattle.linearize_check.specs.contracts.pass.LinearizePass.TheImpl as order
 use Rattle.farm_nodes_offers.specs.Pending.{IsOfferText}
 
 abbrev pub ConstantsOffer : Type 0

@@ -1,7 +1,7 @@
 -- What a halted node has pending with its seats: an act asked of a node of the room, or its offer, which is not made yet.
 use Rattle.std.specs.Prelude.{ℕ, List, Option}
 use Rattle.rooms_hall.specs.declared.hall.Naming as naming
-use Rattle.farm_nodes_offers.specs.PendingStop.{Pending}
+use Rattle.farm_nodes_acting.specs.declared.stop.Pending.{Pending}
 use Rattle.rooms_numbered.specs.declared.seat.NumberedSeat.{NumberedSeat}
 use Rattle.farm_nodes_passes.specs.declared.which.Which.{Which}
 use Rattle.farm_nodes_passes.specs.Fours.{four_of, fours_of}

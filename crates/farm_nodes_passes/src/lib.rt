@@ -5,8 +5,6 @@ mod oracles;
 mod passes;
 mod which;
 
-pub use farm_nodes_offers::{Fault, Halt, Seat};
 pub use oracles::{AllocationOf, ConstantsOf, ExpressionsOf, Oracles, OrderOf};
 pub use passes::Passes;
-pub use rooms_numbered::{Alloc, FunctionSeat, NumberedSeat, meet};
 pub use which::Which;

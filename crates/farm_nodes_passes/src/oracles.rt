@@ -1,8 +1,10 @@
 use lang_base::{NoMemory, Oracle};
 use rand_pcg::Pcg32;
-use rooms_numbered::{
-    Alloc, ConstProp, Cse, EquationLists, FactLists, Linearize, Order, PlaceLists,
-};
+use alloc_check::Alloc;
+use constprop_check::{ConstProp, FactLists};
+use cse_check::{Cse, EquationLists};
+use linearize_check::{Linearize, Order};
+use alloc_check_verdict::EquationLists as PlaceLists;
 use std::alloc::Global;
 
 /// A node's optimisers, one call for each pass. Nothing is promised of what they propose: an output and a certificate for the

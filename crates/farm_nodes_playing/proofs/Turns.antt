@@ -11,17 +11,17 @@ use Rattle.acceptor_log.specs.Acknowledged.{acknowledged}
 use Rattle.offers.specs.declared.parts.Parts.{Parts}
 use Rattle.rooms_cells.specs.Seen.{SightOf, Read, nothing_seen, value_at, names_of}
 use Rattle.rooms_state.specs.SeatState.{SeatState}
-use Rattle.farm_nodes_offers.specs.SeatValue.{SeatValue, IsOneRoom, offer_of}
-use Rattle.farm_nodes_offers.specs.OfRun.{GoesOn}
-use Rattle.farm_nodes_offers.proofs.Keeping.{goes_offering, goes_through, goes_to}
-use Rattle.farm_nodes_leading.specs.Cause.{HasCause}
-use Rattle.farm_nodes_leading.specs.Pending.{Pending}
-use Rattle.farm_nodes_leading.specs.Pending.TheVariants.{Act, Offer}
-use Rattle.farm_nodes_leading.specs.Noted.{IsActAmong}
+use Rattle.rooms.specs.SeatValue.{SeatValue, IsOneRoom, offer_of}
+use Rattle.rooms_crash.specs.OfRun.{GoesOn}
+use Rattle.rooms_crash.proofs.Keeping.{goes_offering, goes_through, goes_to}
+use Rattle.farm_nodes_acting.specs.Cause.{HasCause}
+use Rattle.farm_nodes_acting.specs.declared.stop.Pending.{Pending}
+use Rattle.farm_nodes_acting.specs.declared.stop.Pending.TheVariants.{Act, Offer}
+use Rattle.farm_nodes_acting.specs.Noted.{IsActAmong}
 use Rattle.farm_nodes_leading.specs.Leading.{StaysInRoom}
 use Rattle.farm_nodes_offers.specs.declared.halt.Fault.{Fault}
 use Rattle.farm_nodes_offers.specs.declared.halt.Fault.TheVariants as fault
-use Rattle.farm_nodes_leading.proofs.Results.{Grown}
+use Rattle.farm_nodes_acting.proofs.Results.{Grown}
 use Rattle.farm_nodes_offers.specs.declared.halt.Halt.{Halt}
 use Rattle.farm_nodes_offers.specs.Halted.{HasHaltCause, HasLeft, Recorded, left_over}
 use Rattle.farm_nodes_offers.specs.Offered.{PutsOffer, IsOfferPending}

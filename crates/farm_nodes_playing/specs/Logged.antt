@@ -6,7 +6,7 @@ use Rattle.lang_base.specs.declared.pass.Pass as pass
 use Rattle.acceptor_log.specs.declared.log.Log.{Log}
 use Rattle.offers.specs.declared.parts.Parts.{Parts}
 use Rattle.rooms_state.specs.SeatState.{SeatState}
-use Rattle.farm_nodes_offers.specs.SeatValue.{SeatValue}
+use Rattle.rooms.specs.SeatValue.{SeatValue}
 use Rattle.farm_nodes_offers.specs.declared.halt.Halt.{Halt}
 use Rattle.farm_nodes_offers.specs.Halted.{left_over, Recorded, HasHaltCause}
 use Rattle.farm_nodes_offers.specs.Pending.{IsOfferText, MayPendOn}

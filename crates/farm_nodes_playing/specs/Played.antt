@@ -4,9 +4,9 @@ use Rattle.acceptor_log.specs.declared.log.Log.{Log}
 use Rattle.acceptor_log.specs.Acknowledged.{acknowledged}
 use Rattle.offers.specs.declared.parts.Parts.{Parts}
 use Rattle.rooms_state.specs.SeatState.{SeatState}
-use Rattle.farm_nodes_offers.specs.SeatValue.{SeatValue, IsOneRoom, offer_of}
-use Rattle.farm_nodes_offers.specs.OfRun.{GoesOn}
-use Rattle.farm_nodes_leading.specs.Journalled.{HasGrown}
+use Rattle.rooms.specs.SeatValue.{SeatValue, IsOneRoom, offer_of}
+use Rattle.rooms_crash.specs.OfRun.{GoesOn}
+use Rattle.farm_nodes_acting.specs.Journalled.{HasGrown}
 use Rattle.farm_nodes_offers.specs.declared.halt.Fault.{Fault}
 use Rattle.farm_nodes_offers.specs.declared.halt.Fault.TheVariants.{NoMemory, Journal, TooManyRegisters, OtherRecords, CellRefused}
 use Rattle.farm_nodes_offers.specs.declared.halt.Halt.{Halt}

@@ -1,7 +1,7 @@
 ghost use Rattle.std.specs.Prelude.{MatchOption};
 ghost use Rattle.farm_nodes_playing.specs.Played.{HasLearnedNone, IsLearnedOutput};
 
-use farm_nodes_offers::Seat;
+use rooms::Seat;
 use lang_base::{Language, Pass};
 
 /// The input of the next pass, where the node knows it: the output of the offer that it has learned here, whoever made

@@ -9,7 +9,6 @@ mod playing;
 mod progress;
 
 pub use choosing::choose;
-pub use farm_nodes_offers::Halt;
 pub use input::learned_output;
 pub use offering::offer_on;
 pub use playing::play;

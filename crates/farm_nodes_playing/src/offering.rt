@@ -1,13 +1,14 @@
 ghost use Rattle.std.specs.Prelude.{◌≡◌, true, IfOk, IfErr, OnOk, IsSome, option_copied};
 ghost use Rattle.acceptor_log.specs.Acknowledged.{IsSound};
-ghost use Rattle.farm_nodes_leading.specs.Served.{IsServed};
+ghost use Rattle.farm_nodes_acting.specs.Served.{IsServed};
 ghost use Rattle.farm_nodes_playing.specs.Logged.{HaltsBefore, HaltsOver, LogsSteps};
 ghost use Rattle.farm_nodes_playing.specs.Played.{HeldOffer, IsMadeOn};
 
 use crate::choosing::choose;
 use acceptor_log::Log;
 use durable_model::Disk;
-use farm_nodes_offers::{Halt, Seat, make_offer};
+use farm_nodes_offers::{Halt, make_offer};
+use rooms::Seat;
 use lang_base::{Language, Oracle, Pass};
 use rand_pcg::Pcg32;
 use std::alloc::Global;

@@ -3,12 +3,3 @@ pub mod Stored
 pub mod Known
 pub mod KnownOffers
 pub mod Faults
-pub use Rattle.farm_nodes_passes.specs.Offers
-pub use Rattle.farm_nodes_passes.specs.declared.passes.Passes
-pub use Rattle.farm_nodes_passes.specs.declared.which.Which
-pub use Rattle.farm_nodes_passes.specs.Fours
-pub use Rattle.farm_nodes_passes.specs.Leaves
-pub use Rattle.farm_nodes_passes.specs.Numbers
-pub use Rattle.farm_nodes_passes.specs.NumberedSeat
-pub use Rattle.farm_nodes_passes.specs.AllocPass
-pub use Rattle.farm_nodes_passes.specs.FarmNodesOffersPending

@@ -7,7 +7,6 @@ mod knowing;
 mod laws;
 mod storing;
 
-pub use farm_nodes_passes::{Alloc, NumberedSeat, Passes, Which};
 pub use fault::RecordFault;
 pub use knowing::known_offers;
 pub use laws::{known_is_kept, known_is_written, offer_is_kept};

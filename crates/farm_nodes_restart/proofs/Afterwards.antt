@@ -10,21 +10,21 @@ use Rattle.acceptor_log_form.specs.Leaves.{kept_by, kept_in}
 use Rattle.rooms_state.specs.SeatState.{SeatState}
 use Rattle.farm_nodes_acting.specs.declared.stop.Pending.{Pending}
 use Rattle.farm_nodes_acting.specs.Noted.{pending_of}
-use Rattle.farm_nodes_acting.proofs.Records.{kept_own, kept_other}
-use Rattle.farm_nodes_restart_records.specs.Numbers.{function_of, pass_of}
-use Rattle.farm_nodes_restart_records.specs.Which.{Which}
-use Rattle.farm_nodes_restart_records.specs.Which.TheVariants.{Constants, Expressions, Allocation, Order}
-use Rattle.farm_nodes_restart_records.specs.Fours.{words_of, Four}
-use Rattle.farm_nodes_restart_records.specs.Leaves.{left_in, pending_at, IsPendingIn, Leave, MayPend}
-use Rattle.farm_nodes_restart_records.specs.Texts.{Texts, texts_by, IsOwnTextIn}
-use Rattle.farm_nodes_restart_records.specs.FarmNodesOffersTold.{offer_by, offer_in, IsToldAs}
+use Rattle.farm_nodes_order.proofs.Records.{kept_own, kept_other}
+use Rattle.farm_nodes_passes.specs.Numbers.{function_of, pass_of}
+use Rattle.farm_nodes_passes.specs.declared.which.Which.{Which}
+use Rattle.farm_nodes_passes.specs.declared.which.Which.TheVariants.{Constants, Expressions, Allocation, Order}
+use Rattle.farm_nodes_passes.specs.Fours.{words_of, Four}
+use Rattle.farm_nodes_passes.specs.Leaves.{left_in, pending_at, IsPendingIn, Leave, MayPend}
+use Rattle.farm_nodes_passes.specs.Texts.{Texts, texts_by, IsOwnTextIn}
+use Rattle.farm_nodes_offers.specs.Told.{offer_by, offer_in, IsToldAs}
 use Rattle.farm_nodes_order.proofs.Told.{offer_other, offer_own}
 use Rattle.farm_nodes_restart_records.specs.Found.{EndsWith, IsFound, LeaveWith}
 use Rattle.farm_nodes_restart_records.specs.declared.finding.Found.{Found}
-use Rattle.farm_nodes_restart_records.specs.Places.{AllChanged}
+use Rattle.farm_nodes_restart_seat.specs.Places.{AllChanged}
 use Rattle.farm_nodes_restart.specs.Returned.{HasStepped, HaveForgotten, HaveReturned, IsTaken, TookAt, TookIn}
-use Rattle.farm_nodes_restart_records.proofs.Records.{forgotten_kept, forgotten_own, took_record, took_told, IsRecordOf}
-use Rattle.farm_nodes_restart_records.proofs.Places.{get_set_other, get_set_same, lent_at, ok_changed_at, seen_at, some_same, there_is}
+use Rattle.farm_nodes_restart_seat.proofs.Records.{forgotten_kept, forgotten_own, took_record, took_told, IsRecordOf}
+use Rattle.farm_nodes_restart_seat.proofs.Places.{get_set_other, get_set_same, lent_at, ok_changed_at, seen_at, some_same, there_is}
 use Rattle.farm_nodes_restart_records.proofs.Rooms.{same_room}
 
 -- ---- with the four of a function

@@ -9,13 +9,13 @@ use Rattle.acceptor_log_form.specs.Fault.{HasFault}
 use Rattle.acceptor_log_form.specs.Order.{AreInOrder}
 use Rattle.farm_nodes_acting.specs.declared.stop.Pending.{Pending}
 use Rattle.farm_nodes_acting.specs.declared.stop.Pending.TheVariants.{Act, Offer}
-use Rattle.farm_nodes_restart_records.specs.Fours.{Four}
-use Rattle.farm_nodes_restart_records.specs.RestartFault.{RestartFault}
-use Rattle.farm_nodes_restart_records.specs.RestartFault.TheVariants.{NoMemory, Journal, OtherRecords, CellRefused}
-use Rattle.farm_nodes_restart_records.specs.Refusals.{restart_fault}
-use Rattle.farm_nodes_restart_records.specs.Taken.{IsTakeFault}
+use Rattle.farm_nodes_passes.specs.Fours.{Four}
+use Rattle.farm_nodes_restart_seat.specs.declared.fault.RestartFault.{RestartFault}
+use Rattle.farm_nodes_restart_seat.specs.declared.fault.RestartFault.TheVariants.{NoMemory, Journal, OtherRecords, CellRefused}
+use Rattle.farm_nodes_restart_seat.specs.Refusals.{restart_fault}
+use Rattle.farm_nodes_restart_seat.specs.Taken.{IsTakeFault}
 use Rattle.farm_nodes_restart_records.specs.Found.{LeaveWith}
-use Rattle.farm_nodes_restart_records.specs.Texts.{Texts}
+use Rattle.farm_nodes_passes.specs.Texts.{Texts}
 use Rattle.farm_nodes_restart.specs.Back.{CountsFailures}
 use Rattle.farm_nodes_restart.specs.Returned.{HasReason, HoldsBack, IsPendingFault}
 use Rattle.farm_nodes_restart_records.proofs.Leaving.{IsRefused}

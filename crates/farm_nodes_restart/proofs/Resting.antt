@@ -13,13 +13,13 @@ use Rattle.rooms_crash.proofs.Keeping.{acted_opening, acted_stands, forgotten_of
 use Rattle.farm_nodes_acting.specs.declared.stop.Pending.{Pending}
 use Rattle.farm_nodes_acting.specs.declared.stop.Pending.TheVariants.{Act, Offer}
 use Rattle.farm_nodes_order.specs.Ordered.{IsOfOneNode}
-use Rattle.farm_nodes_restart_records.specs.Numbers.{function_of, pass_of}
-use Rattle.farm_nodes_restart_records.specs.Which.{Which}
-use Rattle.farm_nodes_restart_records.specs.Which.TheVariants.{Constants, Expressions, Allocation, Order}
-use Rattle.farm_nodes_restart_records.specs.Fours.{words_of, Four}
-use Rattle.farm_nodes_restart_records.specs.Taken.{Took}
+use Rattle.farm_nodes_passes.specs.Numbers.{function_of, pass_of}
+use Rattle.farm_nodes_passes.specs.declared.which.Which.{Which}
+use Rattle.farm_nodes_passes.specs.declared.which.Which.TheVariants.{Constants, Expressions, Allocation, Order}
+use Rattle.farm_nodes_passes.specs.Fours.{words_of, Four}
+use Rattle.farm_nodes_restart_seat.specs.Taken.{Took}
 use Rattle.farm_nodes_restart.specs.Returned.{AreAtRest, HasStepped, HaveForgotten, HaveReturned, IsAtRest, IsTaken, TookAt, TookIn}
-use Rattle.farm_nodes_restart_records.proofs.Places.{get_set_other, get_set_same, some_same, there_is}
+use Rattle.farm_nodes_restart_seat.proofs.Places.{get_set_other, get_set_same, some_same, there_is}
 use Rattle.farm_nodes_restart_records.proofs.Rooms.{same_room}
 use Rattle.farm_nodes_restart.proofs.Afterwards.{others_words}
 

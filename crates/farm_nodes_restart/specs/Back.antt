@@ -9,11 +9,11 @@ use Rattle.acceptor_log.specs.declared.log.Log.{Log}
 use Rattle.acceptor_log.specs.Acknowledged.{acknowledged}
 use Rattle.rooms_hall.specs.declared.hall.Naming as naming
 use Rattle.farm_nodes_acting.specs.declared.stop.Pending.{Pending}
-use Rattle.farm_nodes_restart_records.specs.Fours.{fours_of}
-use Rattle.farm_nodes_restart_records.specs.NumberedSeat.{NumberedSeat}
-use Rattle.farm_nodes_restart_records.specs.Texts.{pass_texts}
-use Rattle.farm_nodes_restart_records.specs.RestartFault.{RestartFault}
-use Rattle.farm_nodes_restart_records.specs.RestartFault.TheVariants as restart
+use Rattle.farm_nodes_passes.specs.Fours.{fours_of}
+use Rattle.rooms_numbered.specs.declared.seat.NumberedSeat.{NumberedSeat}
+use Rattle.farm_nodes_passes.specs.Texts.{pass_texts}
+use Rattle.farm_nodes_restart_seat.specs.declared.fault.RestartFault.{RestartFault}
+use Rattle.farm_nodes_restart_seat.specs.declared.fault.RestartFault.TheVariants as restart
 use Rattle.farm_nodes_restart.specs.Returned.{HasReason, HoldsBack}
 use Rattle.farm_nodes_restart.specs.Seats.{HaveComeBack}
 

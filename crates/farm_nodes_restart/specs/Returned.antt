@@ -12,17 +12,17 @@ use Rattle.farm_nodes_acting.specs.declared.stop.Pending.TheVariants.{Act, Offer
 use Rattle.rooms_state.specs.SeatState.{SeatState}
 use Rattle.rooms_crash.specs.OfRun.{GoesOn}
 use Rattle.farm_nodes_order.specs.Ordered.{IsOfOneNode}
-use Rattle.farm_nodes_restart_records.specs.Fours.{Four, words_of}
-use Rattle.farm_nodes_restart_records.specs.Leaves.{Leave}
-use Rattle.farm_nodes_restart_records.specs.Texts.{Texts, texts_by}
-use Rattle.farm_nodes_restart_records.specs.Numbers.{function_of, pass_of}
-use Rattle.farm_nodes_restart_records.specs.Which.{Which}
-use Rattle.farm_nodes_restart_records.specs.Which.TheVariants.{Constants, Expressions, Allocation, Order}
-use Rattle.farm_nodes_restart_records.specs.RestartFault.{RestartFault}
-use Rattle.farm_nodes_restart_records.specs.RestartFault.TheVariants.{NoMemory, Journal, OtherRecords, CellRefused}
-use Rattle.farm_nodes_restart_records.specs.Taken.{HasForgotten, IsTakeFault, Took}
+use Rattle.farm_nodes_passes.specs.Fours.{Four, words_of}
+use Rattle.farm_nodes_passes.specs.Leaves.{Leave}
+use Rattle.farm_nodes_passes.specs.Texts.{Texts, texts_by}
+use Rattle.farm_nodes_passes.specs.Numbers.{function_of, pass_of}
+use Rattle.farm_nodes_passes.specs.declared.which.Which.{Which}
+use Rattle.farm_nodes_passes.specs.declared.which.Which.TheVariants.{Constants, Expressions, Allocation, Order}
+use Rattle.farm_nodes_restart_seat.specs.declared.fault.RestartFault.{RestartFault}
+use Rattle.farm_nodes_restart_seat.specs.declared.fault.RestartFault.TheVariants.{NoMemory, Journal, OtherRecords, CellRefused}
+use Rattle.farm_nodes_restart_seat.specs.Taken.{HasForgotten, IsTakeFault, Took}
 use Rattle.farm_nodes_restart_records.specs.Found.{AreOther, LeaveWith}
-use Rattle.farm_nodes_restart_records.specs.Places.{AllChanged, ChangedAt}
+use Rattle.farm_nodes_restart_seat.specs.Places.{AllChanged, ChangedAt}
 
 -- each of a function's seats has forgotten all but what its node keeps, and is of the room that it was of
 pub record HaveForgotten {X1 X2 X3 X4 : Type 0} (old new : Four X1 X2 X3 X4) : Type 0 where

@@ -3,11 +3,11 @@ use Rattle.std.specs.Prelude.{ℕ, List, Option}
 use Rattle.acceptor_log_form.specs.declared.record.Record.{Record}
 use Rattle.rooms_hall.specs.declared.hall.Naming as naming
 use Rattle.farm_nodes_acting.specs.declared.stop.Pending.{Pending}
-use Rattle.farm_nodes_restart_records.specs.NumberedSeat.{NumberedSeat}
-use Rattle.farm_nodes_restart_records.specs.Which.{Which}
-use Rattle.farm_nodes_restart_records.specs.Fours.{four_of, fours_of}
-use Rattle.farm_nodes_restart_records.specs.Leaves.{IsPendingIn}
-use Rattle.farm_nodes_restart_records.specs.Offers.{IsConstants, IsExpressions, IsAllocation, IsOrder}
+use Rattle.rooms_numbered.specs.declared.seat.NumberedSeat.{NumberedSeat}
+use Rattle.farm_nodes_passes.specs.declared.which.Which.{Which}
+use Rattle.farm_nodes_passes.specs.Fours.{four_of, fours_of}
+use Rattle.farm_nodes_passes.specs.Leaves.{IsPendingIn}
+use Rattle.farm_nodes_passes.specs.Offers.{IsConstants, IsExpressions, IsAllocation, IsOrder}
 use Rattle.farm_nodes_restart.specs.Returned.{HasStepped, HaveReturned, IsTaken, TookIn}
 
 module _ {H : Type 0} {h : naming.Ghosts H} where

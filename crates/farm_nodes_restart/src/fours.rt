@@ -1,13 +1,15 @@
 //! A node's seats in the four rooms of a function come back.
 
 ghost use Rattle.std.specs.Prelude.{◌≡◌, IfErr, OnOk, OnErr};
-ghost use Rattle.farm_nodes_restart_records.specs.Fours.{four_of};
-ghost use Rattle.farm_nodes_restart_records.specs.Taken.{IsTakeFault};
+ghost use Rattle.farm_nodes_passes.specs.Fours.{four_of};
+ghost use Rattle.farm_nodes_restart_seat.specs.Taken.{IsTakeFault};
 ghost use Rattle.farm_nodes_restart.specs.Returned.{HaveForgotten};
 ghost use Rattle.farm_nodes_restart.specs.Seats.{IsPendingWith, TookWith};
 
 use farm_nodes_acting::Pending;
-use farm_nodes_restart_records::{NumberedSeat, RestartFault, Which, forget, take};
+use rooms_numbered::NumberedSeat;
+use farm_nodes_restart_seat::{RestartFault, forget, take};
+use farm_nodes_passes::Which;
 use rooms_hall::Naming;
 use std::alloc::Global;
 

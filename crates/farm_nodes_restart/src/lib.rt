@@ -5,5 +5,4 @@
 mod fours;
 mod returning;
 
-pub use farm_nodes_restart_records::{NumberedSeat, RestartFault, own_journal};
 pub use returning::come_back;

@@ -12,11 +12,12 @@ ghost use Rattle.farm_nodes_restart_records.specs.Told.{settled_by, IsConfirmed}
 use crate::fours::{are_kept_at, both, is_pending_in};
 use crate::parts::{both_parts, but_last};
 use crate::telling::are_told;
-use acceptor_log::{Header, LogError, Record};
+use acceptor_log_form::{Header, LogError, Record};
 use farm_nodes_acting::Pending;
-use farm_nodes_passes::{NumberedSeat, Which};
+use rooms_numbered::NumberedSeat;
+use farm_nodes_passes::Which;
 use lang_base::NoMemory;
-use paxos_core::Kept;
+use paxos_core_world::kept::Kept;
 use rooms_hall::Naming;
 use std::alloc::Global;
 

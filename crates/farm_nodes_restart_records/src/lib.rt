@@ -9,7 +9,5 @@ mod parts;
 mod seat;
 mod telling;
 
-pub use farm_nodes_passes::{NumberedSeat, Which};
-pub use farm_nodes_restart_seat::{RestartFault, forget, take};
 pub use finding::{Found, find};
 pub use laws::own_journal;

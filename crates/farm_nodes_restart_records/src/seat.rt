@@ -3,7 +3,7 @@
 ghost use Rattle.std.specs.Prelude.{◌≡◌, ◌<◌, ◌↔◌, length, Some, slice_get, IsTrue};
 
 use lang_base::Pass;
-use paxos_core::Kept;
+use paxos_core_world::kept::Kept;
 use rooms::Seat;
 
 /// Whether the part at the place is what the seat keeps.

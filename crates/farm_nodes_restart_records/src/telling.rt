@@ -6,8 +6,9 @@ ghost use Rattle.farm_nodes_passes.specs.Texts.{pass_texts};
 ghost use Rattle.farm_nodes_restart_records.specs.Told.{AreTold, IsTextAt, IsTold};
 
 use crate::fours::{both, is_text_in};
-use acceptor_log::Record;
-use farm_nodes_passes::{NumberedSeat, Which};
+use acceptor_log_form::Record;
+use rooms_numbered::NumberedSeat;
+use farm_nodes_passes::Which;
 use lang_base::NoMemory;
 use rooms_hall::Naming;
 use std::alloc::Global;

@@ -14,11 +14,11 @@ use Rattle.rooms_cells.specs.Seen.{SightOf, value_at}
 use Rattle.rooms.specs.SeatValue.{SeatValue, offer_of}
 use Rattle.farm_nodes_offers.specs.Told.{offer_by, IsOwnText, IsToldAs}
 use Rattle.farm_nodes_order.proofs.Told.{offer_acted}
-use Rattle.farm_nodes_offers.specs.PendingStop.{Pending}
-use Rattle.farm_nodes_offers.specs.PendingStop.TheVariants.{Act, Offer}
-use Rattle.farm_nodes_offers.specs.Noted.{pending_of, record_of, records_of}
-use Rattle.farm_nodes_offers.proofs.Records.{room_of_step}
-use Rattle.farm_nodes_offers.proofs.Steps.{step_kept}
+use Rattle.farm_nodes_acting.specs.declared.stop.Pending.{Pending}
+use Rattle.farm_nodes_acting.specs.declared.stop.Pending.TheVariants.{Act, Offer}
+use Rattle.farm_nodes_acting.specs.Noted.{pending_of, record_of, records_of}
+use Rattle.farm_nodes_order.proofs.Records.{room_of_step}
+use Rattle.farm_nodes_acting.proofs.Steps.{step_kept}
 use Rattle.farm_nodes_offers.proofs.Leavings.{offer_kept}
 use Rattle.farm_nodes_restart_seat.specs.Taken.{HasForgotten, Took}
 

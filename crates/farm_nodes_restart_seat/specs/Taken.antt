@@ -5,8 +5,8 @@ use Rattle.acceptor_log_form.specs.declared.record.Record.TheVariants.{Offered}
 use Rattle.rooms_state.specs.Did.{Forgotten}
 use Rattle.rooms_state.specs.Would.{Acted}
 use Rattle.rooms.specs.SeatValue.{SeatValue}
-use Rattle.farm_nodes_offers.specs.PendingStop.{Pending}
-use Rattle.farm_nodes_offers.specs.PendingStop.TheVariants.{Act, Offer}
+use Rattle.farm_nodes_acting.specs.declared.stop.Pending.{Pending}
+use Rattle.farm_nodes_acting.specs.declared.stop.Pending.TheVariants.{Act, Offer}
 use Rattle.farm_nodes_offers.specs.Offered.{PutsOffer}
 use Rattle.farm_nodes_restart_seat.specs.declared.fault.RestartFault.{RestartFault}
 use Rattle.farm_nodes_restart_seat.specs.declared.fault.RestartFault.TheVariants.{NoMemory, Journal, OtherRecords, CellRefused}

@@ -1,7 +1,7 @@
 ghost use Rattle.std.specs.Prelude.{◌≡◌};
 ghost use Rattle.farm_nodes_restart_seat.specs.Refusals.{restart_fault, number_of};
 
-use acceptor_log::LogError;
+use acceptor_log_form::LogError;
 
 /// Why a node can't come back over a disk. `number` is what a user is shown.
 #[derive(Clone, Copy, Debug, PartialEq, Eq)]

@@ -5,17 +5,19 @@ ghost use Rattle.std.specs.Arc.{arc_value};
 ghost use Rattle.offers.specs.declared.parts.Parts.{Parts};
 ghost use Rattle.rooms.specs.SeatValue.{IsOneRoom};
 ghost use Rattle.rooms_state.specs.Would.{would, Acted, IsAmong};
-ghost use Rattle.farm_nodes_offers.specs.Noted.{records_of, pending_of};
+ghost use Rattle.farm_nodes_acting.specs.Noted.{records_of, pending_of};
 ghost use Rattle.farm_nodes_offers.specs.Pending.{IsAsked, IsOfferLeft, IsPendingOn, IsOfferText};
 ghost use Rattle.farm_nodes_restart_seat.specs.Taken.{HasForgotten, IsOfferFault, IsTakeFault, Took};
 ghost use Rattle.farm_nodes_restart_seat.specs.Telling.{LaysOffer, OffersAgain};
 
 use crate::fault::RestartFault;
-use acceptor_log::Record;
-use farm_nodes_offers::{Pending, record_of};
+use acceptor_log_form::Record;
+use farm_nodes_acting::{Pending, record_of};
 use lang_base::{NoMemory, Pass};
 use offers::{Offer, OfferError};
-use rooms::{Act, Put, Seat};
+use rooms_state::act::Act;
+use rooms_cells::Put;
+use rooms::Seat;
 use std::alloc::Global;
 use std::sync::Arc;
 

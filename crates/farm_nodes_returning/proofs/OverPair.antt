@@ -8,8 +8,8 @@ use Rattle.durable_pair.specs.Images.{Images, IsSpent, Shows, Both}
 use Rattle.acceptor_log_form.specs.declared.errors.LogError.{LogError}
 use Rattle.acceptor_log_form.specs.declared.errors.LogError.TheVariants as log
 use Rattle.farm_nodes_restart.specs.Back.{CountsFailures}
-use Rattle.farm_nodes_restart.specs.RestartFault.{RestartFault}
-use Rattle.farm_nodes_restart.specs.Refusals.{restart_fault}
+use Rattle.farm_nodes_restart_seat.specs.declared.fault.RestartFault.{RestartFault}
+use Rattle.farm_nodes_restart_seat.specs.Refusals.{restart_fault}
 use Rattle.farm_nodes_returning.specs.Cause.{HasCauseBefore}
 use Rattle.farm_nodes_pairs.specs.OnPairs.{MayShow, IsSame, IsShown, IsUntouched}
 use Rattle.farm_nodes_pairs.proofs.Shows.{shows_then}

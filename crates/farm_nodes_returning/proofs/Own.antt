@@ -9,18 +9,18 @@ use Rattle.acceptor_log_form.specs.Text.{StandsFor}
 use Rattle.acceptor_log_form.proofs.Between.{between-lists, between-no_fault}
 use Rattle.acceptor_log.specs.declared.log.Log.{Log}
 use Rattle.farm_nodes_acting.specs.declared.stop.Pending.{Pending}
-use Rattle.farm_nodes_node.specs.Numbers.{function_of}
-use Rattle.farm_nodes_node.specs.Fours.{Four}
-use Rattle.farm_nodes_node.specs.Leaves.{left_in, pending_at}
-use Rattle.farm_nodes_node.specs.Texts.{Texts}
+use Rattle.farm_nodes_passes.specs.Numbers.{function_of}
+use Rattle.farm_nodes_passes.specs.Fours.{Four}
+use Rattle.farm_nodes_passes.specs.Leaves.{left_in, pending_at}
+use Rattle.farm_nodes_passes.specs.Texts.{Texts}
 use Rattle.farm_nodes_node.specs.declared.halted.Halted.{Halted}
 use Rattle.farm_nodes_node.specs.Held.{pending_in, IsSoundBy}
-use Rattle.farm_nodes_restart.specs.RestartFault.{RestartFault}
-use Rattle.farm_nodes_restart.specs.RestartFault.TheVariants.{NoMemory, Journal, OtherRecords, CellRefused}
-use Rattle.farm_nodes_restart.specs.Found.{AreOther}
+use Rattle.farm_nodes_restart_seat.specs.declared.fault.RestartFault.{RestartFault}
+use Rattle.farm_nodes_restart_seat.specs.declared.fault.RestartFault.TheVariants.{NoMemory, Journal, OtherRecords, CellRefused}
+use Rattle.farm_nodes_restart_records.specs.Found.{AreOther}
 use Rattle.farm_nodes_restart.specs.Returned.{HasReason, HoldsBack}
-use Rattle.farm_nodes_restart.proofs.Own.{own}
-use Rattle.farm_nodes_restart.proofs.Leaving.{front_in_order}
+use Rattle.farm_nodes_restart_records.proofs.Own.{own}
+use Rattle.farm_nodes_restart_records.proofs.Leaving.{front_in_order}
 use Rattle.durable_pair.specs.Images.{Images, IsSpent}
 use Rattle.farm_nodes_returning.specs.Cause.{HasCauseOn}
 use Rattle.farm_nodes_returning.specs.Own.{IsOwnFault}

@@ -12,14 +12,14 @@ use Rattle.acceptor_log.specs.Acknowledged.{acknowledged, IsSound}
 use Rattle.farm_nodes_acting.specs.JournalAdvances.{AreOf}
 use Rattle.farm_nodes_acting.proofs.Rooms.{of_rooms}
 use Rattle.farm_nodes_acting.specs.declared.stop.Pending.{Pending}
-use Rattle.farm_nodes_node.specs.Fours.{Four}
-use Rattle.farm_nodes_node.specs.Numbers.{function_of}
-use Rattle.farm_nodes_node.specs.Leaves.{pending_at, Leave}
-use Rattle.farm_nodes_node.specs.Texts.{Texts}
+use Rattle.farm_nodes_passes.specs.Fours.{Four}
+use Rattle.farm_nodes_passes.specs.Numbers.{function_of}
+use Rattle.farm_nodes_passes.specs.Leaves.{pending_at, Leave}
+use Rattle.farm_nodes_passes.specs.Texts.{Texts}
 use Rattle.farm_nodes_node.specs.declared.halted.Halted.{Halted}
 use Rattle.farm_nodes_node.specs.Held.{pending_in, AreOfRuns, AreSeatsOf, AreUnproposed, IsSoundBy}
 use Rattle.farm_nodes_restart.specs.Returned.{AreAtRest}
-use Rattle.farm_nodes_restart.proofs.Places.{there_is}
+use Rattle.farm_nodes_restart_seat.proofs.Places.{there_is}
 use Rattle.farm_nodes_returning.specs.Stopped.{left_by, room_in}
 use Rattle.farm_nodes_returning.proofs.Own.{pending_left}
 

@@ -1,9 +1,9 @@
 -- How a refused restart leaves the node stopped, and what it tells.
 use Rattle.std.proofs.Common.{◌≡◌, ℕ, Option, Some}
 use Rattle.farm_nodes_acting.specs.declared.stop.Pending.{Pending}
-use Rattle.farm_nodes_node.specs.Fault.{Fault}
+use Rattle.farm_nodes_offers.specs.declared.halt.Fault.{Fault}
 use Rattle.farm_nodes_node.specs.declared.halted.Halted.{Halted}
-use Rattle.farm_nodes_restart.specs.RestartFault.{RestartFault}
+use Rattle.farm_nodes_restart_seat.specs.declared.fault.RestartFault.{RestartFault}
 use Rattle.farm_nodes_returning.specs.Stopped.{left_by, room_in, stopped_by, told_as}
 
 pub one_told : {A : Type 0} {x y : A} → Some x ≡ Some y → x ≡ y

@@ -1,12 +1,12 @@
 -- What a node had not done, where it is stopped or not.
 use Rattle.std.proofs.Common.{◌≡◌, ℕ, List, Option, Some, None, sym, subst}
 use Rattle.rooms_hall.specs.declared.hall.Naming as naming
-use Rattle.farm_nodes_node.specs.Offers.{ConstantsOffer, ExpressionsOffer, AllocationOffer, OrderOffer, IsConstants, IsExpressions, IsAllocation, IsOrder}
-use Rattle.farm_nodes_node.specs.NumberedSeat.{NumberedSeat}
+use Rattle.farm_nodes_passes.specs.Offers.{ConstantsOffer, ExpressionsOffer, AllocationOffer, OrderOffer, IsConstants, IsExpressions, IsAllocation, IsOrder}
+use Rattle.rooms_numbered.specs.declared.seat.NumberedSeat.{NumberedSeat}
 use Rattle.farm_nodes_acting.specs.declared.stop.Pending.{Pending}
-use Rattle.farm_nodes_node.specs.Fours.{fours_of, Four}
-use Rattle.farm_nodes_node.specs.Leaves.{MayPend}
-use Rattle.farm_nodes_node.specs.Pending.{HavePending}
+use Rattle.farm_nodes_passes.specs.Fours.{fours_of, Four}
+use Rattle.farm_nodes_passes.specs.Leaves.{MayPend}
+use Rattle.farm_nodes_passes.specs.Pending.{HavePending}
 use Rattle.farm_nodes_node.specs.declared.halted.Halted.{Halted}
 use Rattle.farm_nodes_node.specs.Waiting.{IsWaiting}
 use Rattle.farm_nodes_returning.specs.Stopped.{left_by, room_in}

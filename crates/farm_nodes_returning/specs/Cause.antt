@@ -4,11 +4,11 @@ use Rattle.durable_pair.specs.Images.{Images, IsSpent}
 use Rattle.acceptor_log_form.specs.declared.errors.LogError.TheVariants as log
 use Rattle.acceptor_log_form.specs.declared.header.Header.{Header}
 use Rattle.farm_nodes_acting.specs.declared.stop.Pending.{Pending}
-use Rattle.farm_nodes_node.specs.Fours.{Four}
-use Rattle.farm_nodes_node.specs.Texts.{Texts}
+use Rattle.farm_nodes_passes.specs.Fours.{Four}
+use Rattle.farm_nodes_passes.specs.Texts.{Texts}
 use Rattle.farm_nodes_restart.specs.Returned.{HasReason}
-use Rattle.farm_nodes_restart.specs.RestartFault.{RestartFault}
-use Rattle.farm_nodes_restart.specs.RestartFault.TheVariants.{NoMemory, Journal}
+use Rattle.farm_nodes_restart_seat.specs.declared.fault.RestartFault.{RestartFault}
+use Rattle.farm_nodes_restart_seat.specs.declared.fault.RestartFault.TheVariants.{NoMemory, Journal}
 
 -- why nothing of the new disk is read: memory was refused, or the device failed; or the old journal counts, and then the new disk
 -- has none

@@ -6,10 +6,10 @@ use Rattle.durable_pair.specs.declared.pair.Pair as pairs
 use Rattle.acceptor_log_form.specs.declared.header.Header.{Header}
 use Rattle.rooms_hall.specs.declared.hall.Naming as naming
 use Rattle.farm_nodes_acting.specs.declared.stop.Pending.{Pending}
-use Rattle.farm_nodes_node.specs.Fours.{fours_of}
-use Rattle.farm_nodes_node.specs.Texts.{pass_texts}
-use Rattle.farm_nodes_restart.specs.NumberedSeat.{NumberedSeat}
-use Rattle.farm_nodes_restart.specs.RestartFault.{RestartFault}
+use Rattle.farm_nodes_passes.specs.Fours.{fours_of}
+use Rattle.farm_nodes_passes.specs.Texts.{pass_texts}
+use Rattle.rooms_numbered.specs.declared.seat.NumberedSeat.{NumberedSeat}
+use Rattle.farm_nodes_restart_seat.specs.declared.fault.RestartFault.{RestartFault}
 use Rattle.farm_nodes_pairs.specs.OnPairs.{MayShow}
 use Rattle.farm_nodes_returning.specs.Cause.{HasCauseOn}
 

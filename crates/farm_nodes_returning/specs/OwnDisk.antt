@@ -5,12 +5,12 @@ use Rattle.acceptor_log_form.specs.declared.record.Record.{Record}
 use Rattle.acceptor_log_form.specs.Order.{AreInOrder}
 use Rattle.acceptor_log_form.specs.Text.{StandsFor}
 use Rattle.acceptor_log.specs.declared.log.Log.{Log}
-use Rattle.farm_nodes_node.specs.Fours.{Four}
+use Rattle.farm_nodes_passes.specs.Fours.{Four}
 use Rattle.farm_nodes_node.specs.Held.{IsSoundNode}
-use Rattle.farm_nodes_node.specs.Offers.{ConstantsOffer, ExpressionsOffer, AllocationOffer, OrderOffer}
-use Rattle.farm_nodes_node.specs.Texts.{pass_texts}
+use Rattle.farm_nodes_passes.specs.Offers.{ConstantsOffer, ExpressionsOffer, AllocationOffer, OrderOffer}
+use Rattle.farm_nodes_passes.specs.Texts.{pass_texts}
 use Rattle.farm_nodes_node.specs.declared.halted.Halted.{Halted}
-use Rattle.farm_nodes_restart.specs.Found.{AreOther}
+use Rattle.farm_nodes_restart_records.specs.Found.{AreOther}
 use Rattle.farm_nodes_returning.specs.Stopped.{left_by, room_in}
 
 module _ {D : Type 0} (disk : disks.Ghosts D) where

@@ -8,9 +8,9 @@ use Rattle.acceptor_log_form.specs.Text.{StandsFor}
 use Rattle.acceptor_log.specs.Acknowledged.{acknowledged}
 use Rattle.rooms_hall.specs.declared.hall.Naming as naming
 use Rattle.farm_nodes_node.specs.declared.farm_node.FarmNode.{FarmNode}
-use Rattle.farm_nodes_node.specs.Fours.{fours_of}
-use Rattle.farm_nodes_node.specs.Texts.{pass_texts}
-use Rattle.farm_nodes_restart.specs.RestartFault.{RestartFault}
+use Rattle.farm_nodes_passes.specs.Fours.{fours_of}
+use Rattle.farm_nodes_passes.specs.Texts.{pass_texts}
+use Rattle.farm_nodes_restart_seat.specs.declared.fault.RestartFault.{RestartFault}
 use Rattle.farm_nodes_restart.specs.Seats.{HaveComeBack}
 use Rattle.farm_nodes_pairs.specs.OnPairs.{IsShown, IsUntouched}
 use Rattle.farm_nodes_returning.specs.Cause.{HasCauseOn}

@@ -1,11 +1,11 @@
 -- What a node had not done when it was stopped, and how a refused restart leaves it stopped.
 use Rattle.std.specs.Prelude.{ℕ, Option, Some, None}
 use Rattle.farm_nodes_acting.specs.declared.stop.Pending.{Pending}
-use Rattle.farm_nodes_node.specs.Fault.{Fault}
-use Rattle.farm_nodes_node.specs.Fault.TheVariants as fault
+use Rattle.farm_nodes_offers.specs.declared.halt.Fault.{Fault}
+use Rattle.farm_nodes_offers.specs.declared.halt.Fault.TheVariants as fault
 use Rattle.farm_nodes_node.specs.declared.halted.Halted.{Halted}
-use Rattle.farm_nodes_restart.specs.RestartFault.{RestartFault}
-use Rattle.farm_nodes_restart.specs.RestartFault.TheVariants.{NoMemory, Journal, OtherRecords, CellRefused}
+use Rattle.farm_nodes_restart_seat.specs.declared.fault.RestartFault.{RestartFault}
+use Rattle.farm_nodes_restart_seat.specs.declared.fault.RestartFault.TheVariants.{NoMemory, Journal, OtherRecords, CellRefused}
 
 -- the room in which it was stopped; of a node that is not stopped nothing is pending, in room 0
 abbrev pub room_in : Option Halted → ℕ

@@ -7,6 +7,5 @@ mod opening;
 mod restarting;
 mod stopping;
 
-pub use farm_nodes_restart::RestartFault;
 pub use laws::own_disk;
 pub use restarting::restart;

@@ -5,8 +5,8 @@ ghost use Rattle.durable_model.specs.Honest.{Risen};
 ghost use Rattle.durable_pair.specs.Images.{IsSpent};
 ghost use Rattle.acceptor_log_form.specs.Text.{StandsFor};
 ghost use Rattle.acceptor_log.specs.Acknowledged.{acknowledged, IsSound};
-ghost use Rattle.farm_nodes_node.specs.Fours.{fours_of};
-ghost use Rattle.farm_nodes_restart.specs.Pending.{HavePending};
+ghost use Rattle.farm_nodes_passes.specs.Fours.{fours_of};
+ghost use Rattle.farm_nodes_passes.specs.Pending.{HavePending};
 ghost use Rattle.farm_nodes_restart.specs.Back.{CameBackBy, CountsFailures, HasInOrder};
 ghost use Rattle.farm_nodes_restart.specs.Back.{disk_given, fault_given};
 ghost use Rattle.farm_nodes_restart.specs.Returned.{AreAtRest};
@@ -14,11 +14,14 @@ ghost use Rattle.farm_nodes_pairs.specs.OnPairs.{IsSame, IsShown, IsUntouched, L
 ghost use Rattle.farm_nodes_returning.specs.Cause.{HasCauseBefore};
 ghost use Rattle.farm_nodes_returning.specs.OverPair.{ShowsOnly, StaysOutOf};
 
-use acceptor_log::{Header, Log, LogError};
+use acceptor_log_form::{Header, LogError};
+use acceptor_log::Log;
 use durable_pair::Pair;
 use farm_nodes_acting::Pending;
 use farm_nodes_pairs::{OldDisk, old_disk};
-use farm_nodes_restart::{NumberedSeat, RestartFault, come_back};
+use rooms_numbered::NumberedSeat;
+use farm_nodes_restart_seat::RestartFault;
+use farm_nodes_restart::come_back;
 use rooms_hall::Naming;
 use std::alloc::Global;
 

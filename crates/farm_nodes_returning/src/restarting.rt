@@ -11,8 +11,9 @@ use crate::opening::come_back_on;
 use crate::stopping::{told, unfinished};
 use acceptor_log::at_rest;
 use durable_pair::Pair;
-use farm_nodes_node::{FarmNode, Halt, Halted};
-use farm_nodes_restart::RestartFault;
+use farm_nodes_node::{FarmNode, Halted};
+use farm_nodes_offers::Halt;
+use farm_nodes_restart_seat::RestartFault;
 use rooms_hall::Naming;
 
 /// Restarts a node over the journal on a pair of disks, whose header has to be that of its own. What it had not done is done where

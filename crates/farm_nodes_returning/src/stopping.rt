@@ -4,8 +4,9 @@ ghost use Rattle.std.specs.Prelude.{◌≡◌};
 ghost use Rattle.farm_nodes_returning.specs.Stopped.{left_by, room_in, told_as};
 
 use farm_nodes_acting::Pending;
-use farm_nodes_node::{Fault, Halt, Halted};
-use farm_nodes_restart::RestartFault;
+use farm_nodes_offers::{Fault, Halt};
+use farm_nodes_node::Halted;
+use farm_nodes_restart_seat::RestartFault;
 
 /// The room in which a node was stopped, and what it has not done there.
 pub(crate) fn unfinished(halted: Option<Halted>) -> (u16, Option<Pending>)

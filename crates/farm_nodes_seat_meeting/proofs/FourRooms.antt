@@ -3,10 +3,10 @@ use Rattle.std.proofs.Common.{◌≡◌, ◌≢◌, ◌↔◌, ℕ, Bool, true, 
 use Rattle.std.proofs.lemmas.Bool.{cases_eq}
 use Rattle.std.specs.Prelude.{IsSome, IsTrue}
 use Rattle.rooms_hall.specs.Claimed.{Claimed}
-use Rattle.farm_nodes_passes.specs.FunctionMeeting.{FunctionMeeting}
-use Rattle.farm_nodes_passes.specs.FunctionSeat.{FunctionSeat}
-use Rattle.farm_nodes_passes.specs.FunctionOf.{AreAsBefore, AreStrangers, HaveMetIn}
-use Rattle.farm_nodes_passes.specs.Met.{IsOneFunction}
+use Rattle.rooms_function.specs.declared.meeting.FunctionMeeting.{FunctionMeeting}
+use Rattle.rooms_function.specs.declared.seat.FunctionSeat.{FunctionSeat}
+use Rattle.rooms_numbered.specs.FunctionOf.{AreAsBefore, AreStrangers, HaveMetIn}
+use Rattle.rooms_function.specs.Met.{IsOneFunction}
 use Rattle.farm_nodes_passes.specs.Offers.{ConstantsOffer, ExpressionsOffer, AllocationOffer, OrderOffer}
 use Rattle.farm_nodes_seat_meeting.specs.Held.{Held, held}
 use Rattle.farm_nodes_seat_meeting.specs.Learned.{learned_offer}

@@ -4,4 +4,3 @@ pub mod FourRooms
 pub mod Counts
 pub mod Places
 pub mod Strange
-pub use Rattle.farm_nodes_passes.proofs.Sent

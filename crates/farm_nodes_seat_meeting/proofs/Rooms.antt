@@ -9,7 +9,7 @@ use Rattle.rooms_seat.specs.declared.meeting.Meeting.TheVariants.{Same}
 use Rattle.rooms_state.specs.SeatState.{SeatState}
 use Rattle.rooms.specs.SeatValue.{IsOneRoom, SeatValue, offer_of}
 use Rattle.rooms.specs.SeatValue as seats
-use Rattle.farm_nodes_passes.specs.Met.{Met}
+use Rattle.rooms_function.specs.Met.{Met}
 use Rattle.farm_nodes_seat_meeting.specs.Held.{Numbered, numbered}
 use Rattle.farm_nodes_seat_meeting.specs.Learned.{learned_offer}
 use Rattle.farm_nodes_seat_meeting.specs.Rooms.{LinkIn, MetIn}

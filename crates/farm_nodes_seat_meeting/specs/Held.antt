@@ -2,7 +2,7 @@
 use Rattle.rooms.specs.SeatValue.{SeatValue}
 use Rattle.rooms_hall.specs.Claimed.{Claimed}
 use Rattle.rooms_hall.specs.declared.hall.Naming as naming
-use Rattle.farm_nodes_passes.specs.NumberedSeat.{NumberedSeat}
+use Rattle.rooms_numbered.specs.declared.seat.NumberedSeat.{NumberedSeat}
 use Rattle.farm_nodes_passes.specs.Offers.{ConstantsOffer, ExpressionsOffer, AllocationOffer, OrderOffer}
 
 pub record Numbered (T : Type 0) : Type 0 where

@@ -4,11 +4,3 @@ pub mod Rooms
 pub mod Functions
 pub mod Counts
 pub mod Lists
-pub use Rattle.rooms_seat.specs.Meeting
-pub use Rattle.farm_nodes_passes.specs.Offers
-pub use Rattle.farm_nodes_passes.specs.NumberedSeat
-pub use Rattle.farm_nodes_passes.specs.Fours
-pub use Rattle.farm_nodes_passes.specs.Leaves
-pub use Rattle.farm_nodes_passes.specs.Numbers
-pub use Rattle.farm_nodes_passes.specs.declared.which.Which
-pub use Rattle.farm_nodes_passes.specs.Told

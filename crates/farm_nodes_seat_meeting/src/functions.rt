@@ -3,7 +3,7 @@ ghost use Rattle.farm_nodes_seat_meeting.specs.Held.{held_of};
 ghost use Rattle.farm_nodes_seat_meeting.specs.Functions.{HasAll, HasMet};
 
 use crate::learned::has_learned_offer;
-use farm_nodes_passes::{NumberedSeat, meet};
+use rooms_numbered::{NumberedSeat, meet};
 use rooms_hall::Naming;
 
 /// The seats of two nodes in the four rooms of one function meet, room by room, where the rooms have one number. Answers whether both

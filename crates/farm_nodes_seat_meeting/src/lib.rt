@@ -7,7 +7,6 @@ mod learned;
 mod meeting;
 mod strangers;
 
-pub use farm_nodes_passes::{NumberedSeat, Oracles};
 pub use functions::meet_in_function;
 pub use learned::{has_learned_offer, learned_offer};
 pub use meeting::meet_seats;

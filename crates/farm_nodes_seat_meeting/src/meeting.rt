@@ -3,7 +3,7 @@ ghost use Rattle.farm_nodes_seat_meeting.specs.Held.{held_of};
 ghost use Rattle.farm_nodes_seat_meeting.specs.Lists.{HaveMetAll};
 
 use crate::functions::meet_in_function;
-use farm_nodes_passes::NumberedSeat;
+use rooms_numbered::NumberedSeat;
 use rooms_hall::Naming;
 
 /// Two nodes meet, in all rooms of all functions. Answers how many functions both link, with all four offers seen. Nodes

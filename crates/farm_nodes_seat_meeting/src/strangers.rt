@@ -2,7 +2,7 @@ ghost use Rattle.std.specs.Prelude.{◌↔◌, IsTrue};
 ghost use Rattle.farm_nodes_seat_meeting.specs.Held.{held_of};
 ghost use Rattle.farm_nodes_seat_meeting.specs.Lists.{AreStrangers};
 
-use farm_nodes_passes::NumberedSeat;
+use rooms_numbered::NumberedSeat;
 use rooms_hall::Naming;
 
 /// Whether two nodes are of two farms: whether of each function that both have seats of, the rooms of the one have another number

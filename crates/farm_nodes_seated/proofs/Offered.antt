@@ -11,7 +11,7 @@ use Rattle.ltl.specs.contracts.language.LtlLanguage.TheImpl as ltl_language
 use Rattle.linear_language.specs.contracts.language.LinearLanguage.TheImpl as linear_language
 use Rattle.constprop_check.specs.contracts.pass.ConstPropPass.TheImpl as constants
 use Rattle.cse_check.specs.contracts.pass.CsePass.TheImpl as expressions
-use Rattle.farm_nodes_functions.specs.AllocPass.TheImpl as allocation
+use Rattle.alloc_check.specs.contracts.pass.AllocPass.TheImpl as allocation
 use Rattle.linearize_check.specs.contracts.pass.LinearizePass.TheImpl as order
 use Rattle.paxos_core_world.specs.KeptPart.{KeptPart, nothing_kept}
 use Rattle.paxos_core_world.specs.World.{nodes_of}
@@ -19,13 +19,13 @@ use Rattle.acceptor_log_form.specs.Leaves.{kept_in}
 use Rattle.acceptor_log_form.specs.declared.record.Record.{Record}
 use Rattle.offers.specs.declared.parts.Parts.{Parts}
 use Rattle.rooms.specs.Opened.{offer_at}
-use Rattle.farm_nodes_stored.specs.Numbers.{place_of, room_at}
-use Rattle.farm_nodes_stored.specs.Which.{Which}
-use Rattle.farm_nodes_stored.specs.Which.TheVariants.{Constants, Expressions, Allocation, Order}
-use Rattle.farm_nodes_stored.specs.Known.{AreKnown}
-use Rattle.farm_nodes_stored.specs.Stored.{IsStored}
-use Rattle.farm_nodes_stored.specs.FarmNodesRecordsStored.{Stored}
-use Rattle.farm_nodes_functions.specs.Kept.{kept_of}
+use Rattle.farm_nodes_passes.specs.Numbers.{place_of, room_at}
+use Rattle.farm_nodes_passes.specs.declared.which.Which.{Which}
+use Rattle.farm_nodes_passes.specs.declared.which.Which.TheVariants.{Constants, Expressions, Allocation, Order}
+use Rattle.farm_nodes_records.specs.Known.{AreKnown}
+use Rattle.farm_nodes_records.specs.Stored.{IsStored}
+use Rattle.farm_nodes_records.specs.declared.storing.Stored.{Stored}
+use Rattle.farm_nodes_function_rooms.specs.Kept.{kept_of}
 use Rattle.farm_nodes_functions.specs.Opened.{AreOfferedIn}
 use Rattle.farm_nodes_lists.specs.Rows.{offers_of, rows_of}
 use Rattle.farm_nodes_functions.proofs.Seated.{kept_at}

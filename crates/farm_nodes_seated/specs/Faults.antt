@@ -2,10 +2,10 @@
 use Rattle.std.specs.Prelude.{ℕ}
 use Rattle.acceptor_log_form.specs.declared.errors.LogError.{LogError}
 use Rattle.acceptor_log_form.specs.declared.errors.LogError.TheVariants as log
-use Rattle.farm_nodes_functions.specs.RoomFault.{RoomFault}
-use Rattle.farm_nodes_functions.specs.RoomFault.TheVariants as room
-use Rattle.farm_nodes_stored.specs.RecordFault.{RecordFault}
-use Rattle.farm_nodes_stored.specs.RecordFault.TheVariants as entry
+use Rattle.farm_nodes_function_rooms.specs.declared.fault.RoomFault.{RoomFault}
+use Rattle.farm_nodes_function_rooms.specs.declared.fault.RoomFault.TheVariants as room
+use Rattle.farm_nodes_records.specs.declared.fault.RecordFault.{RecordFault}
+use Rattle.farm_nodes_records.specs.declared.fault.RecordFault.TheVariants as entry
 use Rattle.farm_nodes_seated.specs.declared.fault.OpenFault.{OpenFault}
 use Rattle.farm_nodes_seated.specs.declared.fault.OpenFault.TheVariants.{NoMemory, Journal, Refused, Room}
 

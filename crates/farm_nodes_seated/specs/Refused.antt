@@ -9,10 +9,10 @@ use Rattle.acceptor_log_form.specs.declared.record.Record.{Record}
 use Rattle.farm_nodes_stored.specs.Nodes.{AreMade, AtNode}
 use Rattle.farm_nodes_stored.specs.Read.{IsBadPart, IsKeptPart, WereRead}
 use Rattle.farm_nodes_stored.specs.Checked.{WasRefused, WereAccepted}
-use Rattle.farm_nodes_functions.specs.Kept.{IsOfferedIn, IsSettledIn}
-use Rattle.farm_nodes_functions.specs.Left.{AreLeftIn}
-use Rattle.farm_nodes_functions.specs.RoomFault.{RoomFault}
-use Rattle.farm_nodes_functions.specs.RoomFault.TheVariants.{CellRefused, Unsettled}
+use Rattle.farm_nodes_function_rooms.specs.Kept.{IsOfferedIn, IsSettledIn}
+use Rattle.farm_nodes_function_rooms.specs.Left.{AreLeftIn}
+use Rattle.farm_nodes_function_rooms.specs.declared.fault.RoomFault.{RoomFault}
+use Rattle.farm_nodes_function_rooms.specs.declared.fault.RoomFault.TheVariants.{CellRefused, Unsettled}
 use Rattle.farm_nodes_functions.specs.Opened.{IsSettledBefore}
 use Rattle.farm_nodes_seated.specs.declared.fault.OpenFault.{OpenFault}
 use Rattle.farm_nodes_seated.specs.declared.fault.OpenFault.TheVariants.{Journal, Refused, Room}

@@ -1,9 +1,9 @@
 ghost use Rattle.std.specs.Prelude.{◌≡◌};
 ghost use Rattle.farm_nodes_seated.specs.Faults.{fault_of_journal, fault_of_records, fault_of_room};
 
-use acceptor_log::LogError;
-use farm_nodes_functions::RoomFault;
-use farm_nodes_stored::RecordFault;
+use acceptor_log_form::LogError;
+use farm_nodes_function_rooms::RoomFault;
+use farm_nodes_records::RecordFault;
 
 /// Why a farm's nodes do not come from their disks.
 #[derive(Clone, Copy, Debug, PartialEq, Eq)]

@@ -5,6 +5,5 @@
 mod fault;
 mod seating;
 
-pub use farm_nodes_functions::RoomFault;
 pub use fault::OpenFault;
 pub use seating::{rooms_of, seats_of};

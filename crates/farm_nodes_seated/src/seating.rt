@@ -1,17 +1,21 @@
 ghost use Rattle.std.specs.Prelude.{◌≡◌, ◌<◌, ℕ, length, IfOk, IfErr};
-ghost use Rattle.farm_nodes_functions.specs.Kept.{AreSettled};
+ghost use Rattle.farm_nodes_function_rooms.specs.Kept.{AreSettled};
 ghost use Rattle.farm_nodes_lists.specs.Rows.{rows_of};
 ghost use Rattle.farm_nodes_seated.specs.Seated.{AreKeptIn, AreSeated};
 ghost use Rattle.farm_nodes_seated.specs.Refused.{TellsOffer, TellsRecords, TellsRoom};
 
 use crate::fault::OpenFault;
-use acceptor_log::{Log, Record};
+use acceptor_log::Log;
+use acceptor_log_form::Record;
 use constprop_check::ConstProp;
 use cse_check::Cse;
-use farm_nodes_functions::{Alloc, open_functions};
-use farm_nodes_stored::{NumberedSeat, known_is_kept, stored_nodes};
+use alloc_check::Alloc;
+use farm_nodes_functions::open_functions;
+use rooms_numbered::NumberedSeat;
+use farm_nodes_records::known_is_kept;
+use farm_nodes_stored::stored_nodes;
 use linearize_check::Linearize;
-use paxos_core::{Kept, Quorums};
+use paxos_core_world::{kept::Kept, quorum::Quorums};
 use rooms_hall::{Hall, Naming};
 use std::alloc::Global;
 use std::sync::Wait;

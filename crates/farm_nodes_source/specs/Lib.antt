@@ -1,4 +1,3 @@
 pub mod Refused
 pub mod Told
 pub mod Ready
-pub use Rattle.c_texts.specs.Accepted

@@ -9,13 +9,13 @@ use Rattle.ltl.specs.contracts.language.LtlLanguage.TheImpl as ltl_language
 use Rattle.linear_language.specs.contracts.language.LinearLanguage.TheImpl as linear_language
 use Rattle.constprop_check.specs.contracts.pass.ConstPropPass.TheImpl as constants
 use Rattle.cse_check.specs.contracts.pass.CsePass.TheImpl as expressions
-use Rattle.farm_nodes_records.specs.AllocPass.TheImpl as allocation
+use Rattle.alloc_check.specs.contracts.pass.AllocPass.TheImpl as allocation
 use Rattle.linearize_check.specs.contracts.pass.LinearizePass.TheImpl as order
 use Rattle.acceptor_log_form.specs.declared.record.Record.{Record}
 use Rattle.offers.specs.declared.parts.Parts.{Parts}
 use Rattle.offers.specs.Text.{text_of}
-use Rattle.farm_nodes_records.specs.Which.{Which}
-use Rattle.farm_nodes_records.specs.Which.TheVariants.{Constants, Expressions, Allocation, Order}
+use Rattle.farm_nodes_passes.specs.declared.which.Which.{Which}
+use Rattle.farm_nodes_passes.specs.declared.which.Which.TheVariants.{Constants, Expressions, Allocation, Order}
 use Rattle.farm_nodes_records.specs.Stored.{IsStored}
 use Rattle.farm_nodes_records.specs.Written.{all_written}
 use Rattle.farm_nodes_records.specs.declared.storing.Stored.{Stored}

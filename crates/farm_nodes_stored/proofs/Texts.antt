@@ -9,11 +9,11 @@ use Rattle.acceptor_log_form.specs.declared.record.Record.{Record}
 use Rattle.offers.specs.Text.{PartsFit}
 use Rattle.offers.specs.declared.parts.Parts.{Parts}
 use Rattle.farm_nodes_order.proofs.Told.{offered_told}
-use Rattle.farm_nodes_records.specs.FarmNodesOffersPending as pending
+use Rattle.farm_nodes_offers.specs.Pending as pending
 use Rattle.farm_nodes_records.specs.Known.{last_in, IsAccepted}
-use Rattle.farm_nodes_records.specs.Numbers.{room_at}
+use Rattle.farm_nodes_passes.specs.Numbers.{room_at}
 use Rattle.farm_nodes_records.specs.Stored.{IsStoredText}
-use Rattle.farm_nodes_records.specs.Which.{Which}
+use Rattle.farm_nodes_passes.specs.declared.which.Which.{Which}
 use Rattle.farm_nodes_records.specs.Written.{offer_in}
 use Rattle.farm_nodes_records.proofs.Writing.{known_from}
 use Rattle.farm_nodes_stored.specs.Checked.{AreOffers}

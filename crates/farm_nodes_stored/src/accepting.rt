@@ -6,7 +6,9 @@ ghost use Rattle.farm_nodes_stored.specs.Checked.{AreAccepted, AreAsMany, AreKno
 use crate::one::StoredOf;
 use constprop_check::ConstProp;
 use cse_check::Cse;
-use farm_nodes_records::{Alloc, Passes, RecordFault, Stored, known_offers};
+use alloc_check::Alloc;
+use farm_nodes_passes::Passes;
+use farm_nodes_records::{RecordFault, Stored, known_offers};
 use lang_base::{NoMemory, Pass};
 use linearize_check::Linearize;
 use offers::{Offer, PartsOf};

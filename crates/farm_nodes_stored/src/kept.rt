@@ -2,9 +2,10 @@ ghost use Rattle.std.specs.Prelude.{◌<◌, IfOk, IfErr};
 ghost use Rattle.farm_nodes_records.specs.Faults.{IsBadRecord};
 ghost use Rattle.farm_nodes_stored.specs.Read.{AreKept, AreOutOfOrder};
 
-use acceptor_log_form::{Header, LogError, Record, kept_parts};
+use acceptor_log_form::{Header, LogError, Record};
+use acceptor_log_form::kept_parts;
 use farm_nodes_records::RecordFault;
-use paxos_core::Kept;
+use paxos_core_world::kept::Kept;
 use std::alloc::Global;
 
 /// What a node has kept of each room of so many functions. Records out of order, or in another room, are refused.

@@ -11,6 +11,5 @@ mod reading;
 mod stored;
 
 pub use checking::OffersOf;
-pub use farm_nodes_records::{NumberedSeat, RecordFault, known_is_kept};
 pub use reading::BadNode;
 pub use stored::stored_nodes;

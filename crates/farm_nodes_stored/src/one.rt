@@ -6,10 +6,12 @@ use crate::kept::kept_of_node;
 use acceptor_log_form::{Header, Record};
 use constprop_check::ConstProp;
 use cse_check::Cse;
-use farm_nodes_records::{Alloc, Passes, RecordFault, Stored, Which, stored_offers};
+use alloc_check::Alloc;
+use farm_nodes_passes::{Passes, Which};
+use farm_nodes_records::{RecordFault, Stored, stored_offers};
 use linearize_check::Linearize;
 use offers::PartsOf;
-use paxos_core::Kept;
+use paxos_core_world::kept::Kept;
 use std::alloc::Global;
 
 /// The offers among the records of a node, pass by pass.

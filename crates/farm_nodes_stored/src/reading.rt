@@ -6,7 +6,7 @@ use crate::one::{StoredOf, stored_of_node};
 use acceptor_log_form::{Header, Record};
 use farm_nodes_records::RecordFault;
 use lang_base::NoMemory;
-use paxos_core::Kept;
+use paxos_core_world::kept::Kept;
 use std::alloc::Global;
 
 /// The first node whose records or offers are refused.

@@ -6,7 +6,7 @@ use crate::checking::{OffersOf, checked_nodes};
 use crate::reading::{BadNode, read_nodes};
 use acceptor_log_form::Record;
 use farm_nodes_records::RecordFault;
-use paxos_core::Kept;
+use paxos_core_world::kept::Kept;
 use std::alloc::Global;
 use std::sync::Wait;
 use std::thread::Threads;

@@ -6,7 +6,8 @@ ghost use Rattle.farm_nodes_threads.specs.Nodes.{NodeCameBack};
 
 use crate::wrapping::{all_nodes, all_taking, two_spares};
 use durable_model::Disk;
-use farm_nodes_node::{FarmNode, Oracles};
+use farm_nodes_node::FarmNode;
+use farm_nodes_passes::Oracles;
 use farm_nodes_workers::{RunError, run_threads as run};
 use parallel_validate::Gate;
 use rooms_hall::Naming;

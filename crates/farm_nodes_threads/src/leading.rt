@@ -1,6 +1,7 @@
 //! Whether a node leads a room.
 
-use farm_nodes_node::{NumberedSeat, Which};
+use rooms_numbered::NumberedSeat;
+use farm_nodes_passes::Which;
 use rooms_hall::Naming;
 use rooms_seat::WordSeat;
 

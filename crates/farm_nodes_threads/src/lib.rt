@@ -8,5 +8,3 @@ mod taking;
 mod wrapping;
 
 pub use coming_back::run_threads;
-pub use farm_nodes_node::FarmNode;
-pub use farm_nodes_workers::RunError;

@@ -1,11 +1,11 @@
 -- The input of a pass behind the first: what was learned in the room before.
 use Rattle.std.proofs.Common.{◌≡◌, ◌<◌, ℕ, true, Option, Some, None, IsSome, MatchOption, option_copied, Bor, Result, Ok, Err, OnOk, IfErr, refl, subst}
 use Rattle.offers.specs.declared.parts.Parts.{Parts}
-use Rattle.farm_nodes_passes.specs.SeatValue.{SeatValue}
+use Rattle.rooms.specs.SeatValue.{SeatValue}
 use Rattle.rooms_state.specs.declared.act.Act.TheVariants as asked
 use Rattle.rooms_state.specs.Would.{would}
-use Rattle.farm_nodes_passes.specs.Quiet.{IsQuiet}
-use Rattle.farm_nodes_playing.specs.Leading.{LeadsByLot}
+use Rattle.farm_nodes_acting.specs.Quiet.{IsQuiet}
+use Rattle.farm_nodes_leading.specs.Leading.{LeadsByLot}
 use Rattle.farm_nodes_passes.specs.Fours.{Four, words_of}
 use Rattle.farm_nodes_passes.specs.declared.which.Which.{Which}
 use Rattle.farm_nodes_playing.specs.Played.{HasLearnedNone, IsLearnedOutput, IsMadeOn}

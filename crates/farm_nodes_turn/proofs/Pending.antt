@@ -2,8 +2,8 @@
 use Rattle.std.proofs.Common.{◌≡◌, ℕ, List, map, slice_get, Option, Some, None}
 use Rattle.rooms_hall.specs.declared.hall.Naming as naming
 use Rattle.farm_nodes_passes.specs.Offers.{IsConstants, IsExpressions, IsAllocation, IsOrder}
-use Rattle.farm_nodes_passes.specs.PendingStop.{Pending as Waiting}
-use Rattle.farm_nodes_passes.specs.NumberedSeat.{NumberedSeat}
+use Rattle.farm_nodes_acting.specs.declared.stop.Pending.{Pending as Waiting}
+use Rattle.rooms_numbered.specs.declared.seat.NumberedSeat.{NumberedSeat}
 use Rattle.farm_nodes_passes.specs.declared.which.Which.{Which}
 use Rattle.farm_nodes_passes.specs.declared.which.Which.TheVariants.{Constants, Expressions, Allocation, Order}
 use Rattle.farm_nodes_passes.specs.Fours.{Four, four_of}

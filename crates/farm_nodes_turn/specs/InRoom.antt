@@ -4,12 +4,12 @@ use Rattle.durable_model.specs.declared.disk.Disk as disks
 use Rattle.acceptor_log.specs.declared.log.Log.{Log}
 use Rattle.rtl_language.specs.Function.{FunctionData}
 use Rattle.rooms_hall.specs.declared.hall.Naming as naming
-use Rattle.farm_nodes_playing.specs.Halt.{Halt}
+use Rattle.farm_nodes_offers.specs.declared.halt.Halt.{Halt}
 use Rattle.farm_nodes_playing.specs.Logged.{MayHaltFor}
 use Rattle.farm_nodes_playing.specs.Played.{Played}
 use Rattle.farm_nodes_playing.specs.declared.progress.Progress.{Progress}
 use Rattle.farm_nodes_passes.specs.Fours.{Four, four_of, words_of}
-use Rattle.farm_nodes_passes.specs.NumberedSeat.{NumberedSeat}
+use Rattle.rooms_numbered.specs.declared.seat.NumberedSeat.{NumberedSeat}
 use Rattle.farm_nodes_passes.specs.Numbers.{function_of, pass_of}
 use Rattle.farm_nodes_passes.specs.Offers.{ConstantsOffer, ExpressionsOffer, AllocationOffer, OrderOffer}
 use Rattle.farm_nodes_passes.specs.Texts.{pass_texts, IsOwnTextIn}

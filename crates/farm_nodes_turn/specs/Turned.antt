@@ -2,15 +2,15 @@
 use Rattle.std.specs.Prelude.{◌≡◌, ◌<◌, ℕ, false, true, Some, None}
 use Rattle.offers.specs.declared.parts.Parts.{Parts}
 use Rattle.rtl_language.specs.Function.{FunctionData}
-use Rattle.farm_nodes_passes.specs.ConstPropPass.TheImpl as constants
-use Rattle.farm_nodes_passes.specs.CsePass.TheImpl as expressions
-use Rattle.farm_nodes_passes.specs.AllocPass.TheImpl as allocation
-use Rattle.farm_nodes_passes.specs.LinearizePass.TheImpl as order
+use Rattle.constprop_check.specs.contracts.pass.ConstPropPass.TheImpl as constants
+use Rattle.cse_check.specs.contracts.pass.CsePass.TheImpl as expressions
+use Rattle.alloc_check.specs.contracts.pass.AllocPass.TheImpl as allocation
+use Rattle.linearize_check.specs.contracts.pass.LinearizePass.TheImpl as order
 use Rattle.rooms_state.specs.declared.act.Act.TheVariants as asked
 use Rattle.rooms_state.specs.Would.{would}
-use Rattle.farm_nodes_passes.specs.SeatValue.{SeatValue, offer_of}
-use Rattle.farm_nodes_passes.specs.Quiet.{IsQuiet}
-use Rattle.farm_nodes_playing.specs.Leading.{LeadsByLot}
+use Rattle.rooms.specs.SeatValue.{SeatValue, offer_of}
+use Rattle.farm_nodes_acting.specs.Quiet.{IsQuiet}
+use Rattle.farm_nodes_leading.specs.Leading.{LeadsByLot}
 use Rattle.farm_nodes_playing.specs.Played.{IsLearnedOutput, IsMadeOn, StaysInTurn}
 use Rattle.farm_nodes_passes.specs.Offers.{ConstantsOffer, ExpressionsOffer, AllocationOffer, OrderOffer}
 use Rattle.farm_nodes_passes.specs.declared.which.Which.{Which}

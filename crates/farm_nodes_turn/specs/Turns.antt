@@ -2,8 +2,8 @@
 use Rattle.std.specs.Prelude.{◌≡◌, ℕ, List, Some, slice_get, Result}
 use Rattle.lang_base.specs.declared.program.Named.{Named}
 use Rattle.acceptor_log.specs.declared.log.Log.{Log}
-use Rattle.farm_nodes_playing.specs.Halt.{Halt}
-use Rattle.farm_nodes_playing.specs.Halted.{left_over, HasHaltCause}
+use Rattle.farm_nodes_offers.specs.declared.halt.Halt.{Halt}
+use Rattle.farm_nodes_offers.specs.Halted.{left_over, HasHaltCause}
 use Rattle.farm_nodes_playing.specs.declared.progress.Progress.{Progress}
 use Rattle.farm_nodes_playing.specs.Played.{Played}
 use Rattle.farm_nodes_passes.specs.Numbers.{pass_of}

@@ -3,9 +3,9 @@ ghost use Rattle.rand_pcg.specs.Pcg.{pcg32};
 ghost use Rattle.acceptor_log.specs.Acknowledged.{IsSound};
 ghost use Rattle.rooms_state.specs.declared.act.Act.TheVariants as asked;
 ghost use Rattle.rooms_state.specs.Would.{would};
-ghost use Rattle.farm_nodes_passes.specs.Served.{IsServed};
-ghost use Rattle.farm_nodes_passes.specs.Quiet.{IsQuiet};
-ghost use Rattle.farm_nodes_playing.specs.Leading.{LeadsByLot};
+ghost use Rattle.farm_nodes_acting.specs.Served.{IsServed};
+ghost use Rattle.farm_nodes_acting.specs.Quiet.{IsQuiet};
+ghost use Rattle.farm_nodes_leading.specs.Leading.{LeadsByLot};
 ghost use Rattle.farm_nodes_playing.specs.Logged.{HaltsBefore, LogsTurn, MayHaltFor};
 ghost use Rattle.farm_nodes_playing.specs.Played.{IsMadeOn, StaysInTurn};
 ghost use Rattle.farm_nodes_passes.specs.Fours.{four_of};
@@ -16,10 +16,11 @@ ghost use Rattle.farm_nodes_turn.specs.Turned.{OthersStay, StandsAfter, StaysIn}
 
 use acceptor_log::Log;
 use durable_model::Disk;
-use farm_nodes_passes::{
-    AllocationOf, ConstantsOf, ExpressionsOf, NumberedSeat, Oracles, OrderOf, Seat, Which,
-};
-use farm_nodes_playing::{Halt, Progress, learned_output, play};
+use farm_nodes_passes::{AllocationOf, ConstantsOf, ExpressionsOf, Oracles, OrderOf, Which};
+use rooms_numbered::NumberedSeat;
+use rooms::Seat;
+use farm_nodes_offers::Halt;
+use farm_nodes_playing::{Progress, learned_output, play};
 use lang_base::{Language, Oracle, Pass};
 use rand_pcg::Pcg32;
 use rooms_hall::Naming;

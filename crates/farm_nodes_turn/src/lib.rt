@@ -6,8 +6,6 @@ mod functions;
 mod in_pass;
 mod in_room;
 
-pub use farm_nodes_passes::{Fault, Halt, NumberedSeat, Oracles, Which};
-pub use farm_nodes_playing::Progress;
 pub use functions::function_in;
 pub use in_pass::play_in;
 pub use in_room::turn_in;

@@ -3,15 +3,3 @@ pub mod Limits
 pub mod Meant
 pub mod Numbers
 pub mod Written
-pub use Rattle.lang_base.specs.Behaviour
-pub use Rattle.lang_base.specs.Reading
-pub use Rattle.lang_base.specs.Texts
-pub use Rattle.lang_base.specs.declared.errors.FormError
-pub use Rattle.lang_base.specs.Machine
-pub use Rattle.lang_base.specs.declared.program.Global
-pub use Rattle.lang_base.specs.declared.program.Named
-pub use Rattle.lang_base.specs.declared.program.Program
-pub use Rattle.lang_base.specs.Keeps
-pub use Rattle.lang_base.specs.Soundness
-pub use Rattle.lang_base.specs.declared.fault.Fault
-pub use Rattle.lang_base.specs.declared.shown.Shown

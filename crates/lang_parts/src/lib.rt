@@ -32,10 +32,6 @@ pub use error::RunError;
 pub use form::{Form, read_front, write_whole};
 pub use graph::{read_ends, read_node};
 pub use keeping::{beside, both};
-pub use lang_base::{
-    Fault, FormError, Language, NoMemory, Row, push_byte, push_u16, push_u32, read_byte,
-    read_count, read_u16, read_u16_below, read_u32,
-};
 pub use many::{Byte, Half, ReadOne, Word, WriteOne, push_each, read_so_many};
 pub use names::is_taken;
 pub use numbers::{read_function_number, read_global};

@@ -6,6 +6,3 @@ pub mod Fits
 pub mod Runs
 pub mod Functions
 pub mod Prepared
-pub use Rattle.lang_parts.specs.Written
-pub use Rattle.lang_base.specs.Behaviour
-pub use Rattle.lang_base.specs.Machine

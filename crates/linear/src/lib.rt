@@ -8,7 +8,5 @@ mod running;
 mod starting;
 mod state;
 
-pub use lang_parts::RunError;
 pub use linear_language::{Function, Instruction, Linear};
-pub use machine::{Act, Arguments, Location, Move, Register, Test};
 pub use running::run;

@@ -10,7 +10,7 @@ use Rattle.lang_base.specs.Texts.{counted_text}
 use Rattle.lang_base.proofs.Forms.{IsForm}
 use Rattle.lang_base.proofs.Parts.{number16_form, number32_form, made_takes, made_again, made_form, tested_form, fits_form, both_form}
 use Rattle.lang_base.proofs.Lists.{counted_form, each_fits, fits_each, HasCode, TakesBehind, follow_form, coded_form, tagged_form}
-use Rattle.machine.specs.Location.{Location}
+use Rattle.locations.specs.declared.location.Location.{Location}
 use Rattle.machine.specs.declared.act.Act.{Act}
 use Rattle.machine.specs.declared.act.Act.TheVariants.{Constant, Operate, Load, Store, Put}
 use Rattle.machine.specs.declared.test.Test.{Test}

@@ -8,10 +8,3 @@ pub mod Noting
 pub mod Forms
 pub mod Equal
 pub mod Growth
-pub use Rattle.machine.specs.Data
-pub use Rattle.machine.specs.Acts
-pub use Rattle.machine.specs.Frames
-pub use Rattle.machine.specs.Calls
-pub use Rattle.machine.specs.Fits
-pub use Rattle.lang_base.specs.Behaviour
-pub use Rattle.lang_base.specs.Machine

@@ -4,7 +4,7 @@ use Rattle.std.specs.Int.{w16, w32}
 use Rattle.std.specs.List.{list_any}
 use Rattle.lang_base.specs.declared.errors.FormError.TheVariants.{NotCanonical}
 use Rattle.lang_base.specs.Reading.{Reading, number, made, tested, both, counted, Table, follow, coded, tagged}
-use Rattle.machine.specs.Location.{Location}
+use Rattle.locations.specs.declared.location.Location.{Location}
 use Rattle.machine.specs.Reading.{one_move, call, asked, value, act, frame}
 use Rattle.linear_language.specs.declared.instruction.Instruction.{Instruction}
 use Rattle.linear_language.specs.declared.instruction.Instruction.TheVariants.{Do, Copy, Call, Branch, Return, Label, Goto}

@@ -1,6 +1,6 @@
 use crate::instruction::Instruction;
 use lang_base::Row;
-use machine::Location;
+use locations::Location;
 use std::marker::Model;
 
 /// A function: where its parameters lie, how many slots it has, and its code. Every part is in

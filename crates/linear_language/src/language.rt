@@ -3,7 +3,7 @@ use crate::function::Function;
 use crate::reading::read_function;
 use crate::writing::push_function;
 use lang_base::{FormError, Language, NoMemory};
-use machine::{Form, read_front, write_whole};
+use lang_parts::{Form, read_front, write_whole};
 use std::alloc::Global;
 
 /// Linear, the last language of the pipeline.

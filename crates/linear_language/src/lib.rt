@@ -14,4 +14,3 @@ mod writing;
 pub use function::Function;
 pub use instruction::Instruction;
 pub use language::Linear;
-pub use machine::Location;

@@ -10,10 +10,9 @@ use crate::function::Function;
 use crate::instruction::Instruction;
 use crate::labels::{no_labels, note};
 use lang_base::{FormError, Row, read_byte, read_u16, read_u32};
-use machine::{
-    Location, ReadOne, are_bytes, read_act, read_call, read_frame, read_move, read_so_many,
-    read_test, read_value,
-};
+use locations::{Location, read_call, read_frame, read_move, read_value};
+use lang_parts::{ReadOne, are_bytes, read_so_many};
+use machine::{read_act, read_test};
 use std::alloc::Global;
 
 #[tactic(auto, unfolding(crate::specs::Reading::calling))]

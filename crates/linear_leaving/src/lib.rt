@@ -10,7 +10,6 @@ mod waiting;
 mod words;
 
 pub use leaving::leave;
-pub use linear_going::{Whole, decode_all, go_on};
 pub use standing::Standing;
 pub use turn::Turn;
 pub use waiting::{Callers, Waiting};

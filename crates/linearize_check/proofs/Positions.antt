@@ -2,9 +2,9 @@
 use Rattle.std.proofs.Common.{◌≡◌, ℕ, zero, suc, ◌+◌, ◌<◌, ◌≤◌, List, [], ◌∷◌, ◌++◌, length, drop, refl, sym, ap, ◌∙◌, arith}
 use Rattle.std.specs.Prelude.{slice_get, slice_index}
 use Rattle.std.proofs.lemmas.List.{length-append, drop_more, drop-drop, drop_at, nil_from_length}
-use Rattle.linearize_check_layout.specs.Block.{Block}
+use Rattle.ltl.specs.declared.block.Block.{Block}
 use Rattle.linear_language.specs.declared.instruction.Instruction.{Instruction}
-use Rattle.linearize_check_layout.specs.Layout.{stretch, order_code}
+use Rattle.linearize_check_proof.specs.Layout.{stretch, order_code}
 use Rattle.linearize_check.specs.Faults.{first_stretch, place_at, BeginsWith, StandsAt}
 use Rattle.linearize_check_layout.proofs.Stretches.{stretch-append}
 

@@ -5,16 +5,16 @@ use Rattle.std.specs.Option.{option_map}
 use Rattle.std.proofs.lemmas.Bool.{both_ways, not-true, not-false}
 use Rattle.std.proofs.lemmas.List.{get_or_default}
 use Rattle.std.proofs.lemmas.List.Elements.{All-from_get_or, recursion_from_All, All-from_recursion}
-use Rattle.linear_language.specs.Fits.{AreDistinct}
-use Rattle.linearize_check_layout.specs.Block.{Block}
-use Rattle.linearize_check_layout.specs.Function as ltl
+use Rattle.machine.specs.Fits.{AreDistinct}
+use Rattle.ltl.specs.declared.block.Block.{Block}
+use Rattle.ltl.specs.Function as ltl
 use Rattle.linear_language.specs.Function as linear
 use Rattle.lang_base.specs.declared.fault.Fault.{Fault}
 use Rattle.lang_base.specs.declared.fault.Fault.TheVariants.{Shape, Node}
-use Rattle.linearize_check_layout.specs.Layout.{successors_of}
-use Rattle.linearize_check_layout.specs.Orders.{ListsNodes, IsOrder}
-use Rattle.linearize_check_layout.specs.Rules.{IsLaidOut, laid_out}
-use Rattle.linearize_check_layout.proofs.Places.{Contains-later}
+use Rattle.linearize_check_proof.specs.Layout.{successors_of}
+use Rattle.linearize_check_proof.specs.Orders.{ListsNodes, IsOrder}
+use Rattle.linearize_check_proof.specs.Rules.{IsLaidOut, laid_out}
+use Rattle.linearize_check_proof.proofs.Places.{Contains-later}
 use Rattle.linearize_check.specs.Faults.{HasShape, IsFreshAt, IsClosedAt, IsOrderedAt, StandsAt, IsRightAt, TellsLowest, TellsMisplaced, lesser, TellsFault}
 use Rattle.linearize_check.proofs.Lowest.{lowest-same, lowest-both}
 use Rattle.linearize_check.proofs.Positions.{code-from_stands, code-stands}

@@ -1,14 +1,14 @@
 -- Where an output is not laid out by an order: the form first, and then node by node.
 use Rattle.std.specs.Prelude.{◌≡◌, ℕ, zero, suc, ◌+◌, ◌<◌, ◌≤◌, List, [], ◌∷◌, ◌++◌, length, Option, Some, None, slice_get, slice_index, take, drop, min, All, Contains}
-use Rattle.linearize_check_layout.specs.Block.{Block}
-use Rattle.linearize_check_layout.specs.Function as ltl
+use Rattle.ltl.specs.declared.block.Block.{Block}
+use Rattle.ltl.specs.Function as ltl
 use Rattle.linear_language.specs.declared.instruction.Instruction.{Instruction}
 use Rattle.linear_language.specs.Function as linear
 use Rattle.lang_base.specs.declared.fault.Fault.{Fault}
 use Rattle.lang_base.specs.declared.fault.Fault.TheVariants.{Shape, Node}
-use Rattle.linearize_check_layout.specs.Layout.{stretch, order_code, successors_of}
-use Rattle.linearize_check_layout.specs.Orders.{ListsNodes}
-use Rattle.linearize_check_layout.specs.Rules.{HasFrame, IsLaidOut}
+use Rattle.linearize_check_proof.specs.Layout.{stretch, order_code, successors_of}
+use Rattle.linearize_check_proof.specs.Orders.{ListsNodes}
+use Rattle.linearize_check_proof.specs.Rules.{HasFrame, IsLaidOut}
 
 -- The form: the order lists nodes, the entry first; the frame is the same; no code stands behind the last stretch.
 pub record HasShape (input : ltl.FunctionData) (output : linear.FunctionData) (order : List ℕ) : Type 0 where

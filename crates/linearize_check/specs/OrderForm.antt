@@ -2,7 +2,7 @@
 use Rattle.std.proofs.Common.{ℕ, ◌<◌, ◌≤◌, ◌^◌, List, [], length, arith}
 use Rattle.std.specs.Int.{w16, to_be_bytes}
 use Rattle.std.specs.List.{AllByRecursion}
-use Rattle.linearize_check_layout.specs.Function as ltl
+use Rattle.ltl.specs.Function as ltl
 use Rattle.lang_base.specs.Reading.{Reading, number, below, counted}
 use Rattle.lang_base.specs.Texts.{counted_text}
 use Rattle.lang_base.proofs.Forms.{IsForm}

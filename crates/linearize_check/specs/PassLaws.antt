@@ -5,11 +5,11 @@ use Rattle.lang_base.specs.Keeps.{Keeps}
 use Rattle.lang_base.specs.declared.program.Program.{Program}
 use Rattle.lang_base.specs.Soundness.{AllFit, Accepted}
 use Rattle.lang_base.proofs.Forms.{one_text}
-use Rattle.linearize_check_layout.specs.Function as ltl
-use Rattle.linearize_check_layout.specs.Meaning as blocks
+use Rattle.ltl.specs.Function as ltl
+use Rattle.ltl.specs.Meaning as blocks
 use Rattle.linear_language.specs.Function as linear
 use Rattle.linear_language.specs.Meaning as code
-use Rattle.linearize_check_layout.specs.Rules.{IsLaidOut}
+use Rattle.linearize_check_proof.specs.Rules.{IsLaidOut}
 use Rattle.linearize_check.specs.OrderForm.{CertFits, cert_text, order_form}
 use Rattle.linearize_check_proof.proofs.Sound.{sound}
 

@@ -1,12 +1,13 @@
 //! What is wrong with an order that anybody proposes.
 
 ghost use Rattle.std.specs.Prelude.{◌≡◌, ◌+◌, ◌<◌, ◌≤◌, ◌^◌, ◌↔◌, false, Some, slice_get, All, length, drop, IsTrue, IfOk};
-ghost use Rattle.linearize_check_layout.specs.Layout.{order_code, successors_of};
+ghost use Rattle.linearize_check_proof.specs.Layout.{order_code, successors_of};
 ghost use Rattle.linearize_check_layout.specs.Marks.{IsMarked, AreMarked};
 ghost use Rattle.linearize_check.specs.Faults.{IsFreshAt, IsClosedAt, IsOrderedAt, TellsLowest, lesser};
 
 use lang_base::NoMemory;
-use linearize_check_layout::{Block, Body, block_at};
+use ltl::{Block, Body};
+use linearize_check_layout::block_at;
 use std::alloc::Global;
 
 /// The lower of two nodes, where there are any.

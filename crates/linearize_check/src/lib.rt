@@ -12,7 +12,6 @@ mod verdict;
 mod walk;
 
 pub use base::baseline;
-pub use lang_base::Fault;
 pub use linearize_check_layout::{lay_out, reachable, rising};
 pub use order::Order;
 pub use pass::Linearize;

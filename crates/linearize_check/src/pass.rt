@@ -4,7 +4,7 @@ use crate::order::Order;
 use crate::verdict::check;
 use lang_base::{FormError, NoMemory, Pass, PassError};
 use linear_language::Linear;
-use linearize_check_layout::Ltl;
+use ltl::Ltl;
 use std::alloc::Global;
 
 /// Pass 4: a function's blocks are laid out as code in an order.
@@ -12,7 +12,7 @@ pub struct Linearize;
 
 impl Pass for Linearize {
     ghost use Rattle.std.specs.Prelude.{◌≡◌, ◌≢◌, ◌≤◌, ℕ, List, ◌++◌, length, take, IsTrue, ◌↔◌, OnOk, OnErr, IfOk, IfErr};
-    ghost use Rattle.linearize_check_layout.specs.Rules.{IsLaidOut};
+    ghost use Rattle.linearize_check_proof.specs.Rules.{IsLaidOut};
     ghost use Rattle.linearize_check.specs.OrderForm.{CertFits, cert_text};
     ghost use Rattle.linearize_check.specs.Baseline.{IsBaseline};
     ghost use Rattle.linearize_check.specs.PassLaws.{laid_out_fits, one_order, sound_law, never};
@@ -37,7 +37,7 @@ impl Pass for Linearize {
 
     fn check(
         alloc: Global,
-        input: &linearize_check_layout::Function,
+        input: &ltl::Function,
         output: &linear_language::Function,
         order: &Order,
     ) -> Result<bool, NoMemory> {
@@ -46,7 +46,7 @@ impl Pass for Linearize {
 
     fn baseline(
         alloc: Global,
-        input: &linearize_check_layout::Function,
+        input: &ltl::Function,
     ) -> Result<(linear_language::Function, Order), PassError>
         ensures accepted { IfOk result (λ made. IsLaidOut input.now made.0 made.1) }
         ensures refused { IfErr result (λ e. e ≢ PassError.NoMemory → never input.now) }
@@ -56,7 +56,7 @@ impl Pass for Linearize {
     }
 
     fn write_cert(
-        _input: &linearize_check_layout::Function,
+        _input: &ltl::Function,
         _output: &linear_language::Function,
         order: &Order,
         out: &mut Vec<u8>,
@@ -71,7 +71,7 @@ impl Pass for Linearize {
 
     fn read_cert(
         alloc: Global,
-        input: &linearize_check_layout::Function,
+        input: &ltl::Function,
         _output: &linear_language::Function,
         bytes: &[u8],
     ) -> Result<(Order, usize), FormError> {

@@ -1,8 +1,8 @@
 //! Orders that anybody proposes, and the functions that are laid out by them.
 
 ghost use Rattle.std.specs.Prelude.{◌≡◌, ◌↔◌, ◌<◌, All, length, Some, slice_get, IsTrue, IfOk, IsSome, IfSome};
-ghost use Rattle.linearize_check_layout.specs.Rules.{IsLaidOut};
-ghost use Rattle.linearize_check_layout.specs.Orders.{ListsNodes, IsOrder};
+ghost use Rattle.linearize_check_proof.specs.Rules.{IsLaidOut};
+ghost use Rattle.linearize_check_proof.specs.Orders.{ListsNodes, IsOrder};
 
 use crate::faults::lowest_disordered;
 use crate::order::Order;
@@ -14,7 +14,7 @@ use std::alloc::Global;
 /// the order is allowed.
 pub fn arrange(
     alloc: Global,
-    input: &linearize_check_layout::Function,
+    input: &ltl::Function,
     nodes: Vec<u16>,
 ) -> Result<Option<(linear_language::Function, Order)>, NoMemory>
     ensures allowed { IfOk result (λ made. IsSome made ↔ IsOrder input.now nodes.items) }
@@ -31,7 +31,7 @@ pub fn arrange(
 /// Whether the function can be laid out by the order.
 fn is_order(
     alloc: Global,
-    input: &linearize_check_layout::Function,
+    input: &ltl::Function,
     nodes: &[u16],
 ) -> Result<bool, NoMemory>
     ensures { IfOk result (λ yes. IsTrue yes ↔ IsOrder input.now nodes.now) }
@@ -44,7 +44,7 @@ fn is_order(
 }
 
 /// Whether the numbers are not too many, each a node, and the entry first.
-pub(crate) fn lists_nodes(input: &linearize_check_layout::Function, nodes: &[u16]) -> bool
+pub(crate) fn lists_nodes(input: &ltl::Function, nodes: &[u16]) -> bool
     ensures { IsTrue result ↔ ListsNodes input.now nodes.now }
 {
     nodes.len() <= usize::from(u16::MAX)

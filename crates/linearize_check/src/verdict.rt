@@ -1,7 +1,7 @@
 //! Whether an output is laid out by an order, and where it is not.
 
 ghost use Rattle.std.specs.Prelude.{◌≡◌, ◌↔◌, IsTrue, IfOk};
-ghost use Rattle.linearize_check_layout.specs.Rules.{HasFrame, IsLaidOut};
+ghost use Rattle.linearize_check_proof.specs.Rules.{HasFrame, IsLaidOut};
 ghost use Rattle.linearize_check.specs.Faults.{TellsFault};
 
 use crate::faults::{lesser, lowest_disordered};
@@ -9,7 +9,7 @@ use crate::order::Order;
 use crate::proposals::lists_nodes;
 use crate::walk::walk_along;
 use lang_base::{Fault, NoMemory};
-use linear_language::Location;
+use locations::Location;
 use std::alloc::Global;
 
 /// What is wrong with the output and the order, if anything is. `Shape`: the order does not begin with the entry, is
@@ -17,7 +17,7 @@ use std::alloc::Global;
 /// is listed twice, has a successor that is not listed, or its stretch is not what the output has in its place.
 pub fn why(
     alloc: Global,
-    input: &linearize_check_layout::Function,
+    input: &ltl::Function,
     output: &linear_language::Function,
     order: &Order,
 ) -> Result<Option<Fault>, NoMemory>
@@ -39,7 +39,7 @@ pub fn why(
 /// Whether the output is laid out by the order.
 pub fn check(
     alloc: Global,
-    input: &linearize_check_layout::Function,
+    input: &ltl::Function,
     output: &linear_language::Function,
     order: &Order,
 ) -> Result<bool, NoMemory>
@@ -49,7 +49,7 @@ pub fn check(
 }
 
 /// Whether the parameters and the slots are the same.
-fn has_frame(input: &linearize_check_layout::Function, output: &linear_language::Function) -> bool
+fn has_frame(input: &ltl::Function, output: &linear_language::Function) -> bool
     ensures { IsTrue result ↔ HasFrame input.now output.now }
 {
     are_same(

@@ -3,4 +3,3 @@ pub mod InRange
 pub mod Tables
 pub mod Searches
 pub mod Risings
-pub use Rattle.linearize_check_proof.proofs.Places

@@ -7,7 +7,7 @@ use Rattle.std.proofs.lemmas.List.Elements.{All-cons, recursion_from_All, Contai
 use Rattle.std.proofs.lemmas.Option.{slice_get_within}
 use Rattle.std.proofs.lemmas.List.Kept.{AllPairs-from_increasing}
 use Rattle.std.proofs.lemmas.List.Quantifiers.{all_pairs_push}
-use Rattle.ltl.specs.Fits.{AreDistinct}
+use Rattle.machine.specs.Fits.{AreDistinct}
 use Rattle.ltl.specs.Function.{FunctionData, IsFunction}
 use Rattle.linearize_check_proof.specs.Layout.{successors_of}
 use Rattle.linearize_check_proof.specs.Orders.{IsOrder}

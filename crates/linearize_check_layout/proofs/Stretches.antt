@@ -4,12 +4,12 @@ use Rattle.std.specs.Prelude.{slice_get}
 use Rattle.std.proofs.lemmas.List.{take_more}
 use Rattle.locations.specs.declared.location.Location.{Location}
 use Rattle.locations.specs.declared.location.Move.{Move}
-use Rattle.ltl.specs.Act.{Act}
+use Rattle.machine.specs.declared.act.Act.{Act}
 use Rattle.ltl.specs.declared.block.Block.{Block}
 use Rattle.ltl.specs.declared.block.Body.{Body}
 use Rattle.ltl.specs.declared.block.Body.TheVariants as body
-use Rattle.linearize_check_proof.specs.Instruction.{Instruction}
-use Rattle.linearize_check_proof.specs.Instruction.TheVariants.{Copy, Call, Branch, Label, Goto}
+use Rattle.linear_language.specs.declared.instruction.Instruction.{Instruction}
+use Rattle.linear_language.specs.declared.instruction.Instruction.TheVariants.{Copy, Call, Branch, Label, Goto}
 use Rattle.linearize_check_proof.specs.Layout.{copies, act_code, is_next, jump, body_code, stretch, order_code}
 
 pub copies-append : (ms : List Move) (rest : List Instruction) → copies ms rest ≡ copies ms [] ++ rest

@@ -1,9 +1,3 @@
 pub mod Reach
 pub mod Marks
 pub mod Visits
-pub use Rattle.linearize_check_proof.specs.Layout
-pub use Rattle.linearize_check_proof.specs.Orders
-pub use Rattle.linearize_check_proof.specs.Rules
-pub use Rattle.ltl.specs.Function
-pub use Rattle.ltl.specs.Meaning
-pub use Rattle.ltl.specs.declared.block.Block

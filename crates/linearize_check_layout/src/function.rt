@@ -1,7 +1,7 @@
 //! A whole function, laid out.
 
 ghost use Rattle.std.specs.Prelude.{◌≡◌, ◌<◌, ◌^◌, length, IfOk};
-ghost use Rattle.ltl.specs.Fits.{AreDistinct};
+ghost use Rattle.machine.specs.Fits.{AreDistinct};
 ghost use Rattle.linearize_check_proof.specs.Rules.{laid_out};
 
 use crate::layout::lay_out;
@@ -14,14 +14,14 @@ pub fn lay_out_function(
     alloc: Global,
     input: &ltl::Function,
     order: &[u16],
-) -> Result<linearize_check_proof::Function, NoMemory>
+) -> Result<linear_language::Function, NoMemory>
     requires few { length order.now < 2 ^ 16 }
     requires distinct { AreDistinct order.now }
     ensures { IfOk result (λ output. output ≡ laid_out input.now order.now) }
 {
     let parameters = Vec::from_slice(alloc, input.parameters().as_slice())?;
     let code = lay_out(alloc, input.blocks().as_slice(), order)?;
-    Ok(linearize_check_proof::Function::new(
+    Ok(linear_language::Function::new(
         Row::from_vec(parameters),
         input.slots(),
         Row::from_vec(code),

@@ -10,5 +10,4 @@ mod reach;
 pub use function::lay_out_function;
 pub use layout::{block_at, lay_out, push_stretch};
 pub use listing::rising;
-pub use ltl::{Block, Body, Function, Ltl};
 pub use reach::reachable;

@@ -8,12 +8,12 @@ use Rattle.lang_base.specs.declared.program.Named.{Named}
 use Rattle.lang_base.specs.declared.shown.Shown.TheVariants as shown
 use Rattle.locations.specs.declared.location.Location.{Location}
 use Rattle.locations.specs.declared.location.Move.{Move}
-use Rattle.ltl.specs.Act.{Act}
-use Rattle.ltl.specs.Test.{Test}
-use Rattle.ltl.specs.Data.{Data, moved, all_moved}
-use Rattle.ltl.specs.Acts.{holds}
-use Rattle.ltl.specs.Frames.{Frame, State, printed, goes_to, returned, comes_back, resumed}
-use Rattle.ltl.specs.Calls.{Callee, values_of, waiting, begun, calls}
+use Rattle.machine.specs.declared.act.Act.{Act}
+use Rattle.machine.specs.declared.test.Test.{Test}
+use Rattle.machine.specs.Data.{Data, moved, all_moved}
+use Rattle.machine.specs.Acts.{holds}
+use Rattle.machine.specs.Frames.{Frame, State, printed, goes_to, returned, comes_back, resumed}
+use Rattle.machine.specs.Calls.{Callee, values_of, waiting, begun, calls}
 use Rattle.ltl.proofs.Outputs.{output-all_moved}
 use Rattle.ltl.specs.declared.block.Block.{Block}
 use Rattle.ltl.specs.declared.block.Body.{Body}

@@ -5,4 +5,3 @@
 mod law;
 
 pub use law::laid_out_keeps;
-pub use linear_language::{Function, Instruction};

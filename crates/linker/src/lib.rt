@@ -12,10 +12,7 @@ mod names;
 mod programs;
 mod refusals;
 
-pub use alloc_check::{Alloc, EquationLists, why};
 pub use chain::{ChainOf, NamedOf};
-pub use cminor::lowered_keeps;
-pub use cminor_program_ranges::same_head_fits;
 pub use errors::LinkError;
 pub use laws::{text_chain, text_chains};
 pub use linking::link as link_passes;

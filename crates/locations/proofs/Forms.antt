@@ -4,9 +4,9 @@ use Rattle.std.specs.Prelude.{◌&&◌, IfSome, not, nat_le}
 use Rattle.std.specs.Int.{w16, to_be_bytes}
 use Rattle.std.specs.List.{AllByRecursion, list_any, list_all}
 use Rattle.std.proofs.lemmas.Bool.{eqb-true, eq-eqb, ltb-true, lt-ltb, leb-true, le-leb, and_parts, and_from, not-true, not_from_false}
-use Rattle.lang_parts.specs.FormError.TheVariants.{NotCanonical, TooLarge}
-use Rattle.lang_parts.specs.Reading.{byte, number, tested, up_to, both, follow, unknown}
-use Rattle.lang_parts.specs.Texts.{EachFits}
+use Rattle.lang_base.specs.declared.errors.FormError.TheVariants.{NotCanonical, TooLarge}
+use Rattle.lang_base.specs.Reading.{byte, number, tested, up_to, both, follow, unknown}
+use Rattle.lang_base.specs.Texts.{EachFits}
 use Rattle.lang_parts.proofs.Forms.{IsForm}
 use Rattle.lang_parts.proofs.Parts.{byte_form, number16_form, made_takes, made_again, made_form, tested_form, fits_form, below_form, up_to_form, both_form}
 use Rattle.lang_parts.proofs.Lists.{counted_form, each_fits, fits_each, HasCode, unknown_takes, follow_form, coded_form, optional_form}

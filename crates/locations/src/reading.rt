@@ -3,15 +3,13 @@
 
 ghost use Rattle.std.specs.Prelude.{◌≡◌, ◌&&◌};
 ghost use Rattle.std.specs.List.{list_all};
-ghost use Rattle.lang_parts.specs.Reading.{IsRead, Reads, items_of};
+ghost use Rattle.lang_base.specs.Reading.{IsRead, Reads, items_of};
 ghost use Rattle.locations.specs.Reading.{register, value, location, is_slot, one_move, moves, target, arguments, call, parameter, parameters, lies_within, frame};
 
 use crate::location::{Location, Move};
 use crate::register::{REGISTER_COUNT, Register};
-use lang_parts::{
-    FormError, ReadOne, Row, read_byte, read_count, read_function_number, read_so_many, read_u16,
-    read_u16_below,
-};
+use lang_base::{FormError, Row, read_byte, read_count, read_u16, read_u16_below};
+use lang_parts::{ReadOne, read_function_number, read_so_many};
 use std::alloc::Global;
 
 /// A register.

@@ -1,4 +1,6 @@
-use machine::{Act, Location, Move, Register, Row, Test};
+use machine::{Act, Test};
+use locations::{Location, Move, Register};
+use lang_base::Row;
 
 /// A node of the graph: moves, and then what it does and where it goes on.
 #[derive(PartialEq, Eq, Drop)]

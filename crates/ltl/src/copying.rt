@@ -4,7 +4,8 @@ ghost use Rattle.std.specs.Prelude.{◌≡◌, IfOk};
 
 use crate::block::{Block, Body};
 use crate::function::Function;
-use machine::{CopyOne, NoMemory, Row, copy_each};
+use lang_parts::{CopyOne, copy_each};
+use lang_base::{NoMemory, Row};
 use std::alloc::Global;
 
 fn copy_body(alloc: Global, body: &Body) -> Result<Body, NoMemory>

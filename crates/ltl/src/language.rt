@@ -2,15 +2,16 @@ use crate::copying::copy_function;
 use crate::function::Function;
 use crate::reading::read_function;
 use crate::writing::push_function;
-use machine::{Form, FormError, Language, NoMemory, read_front, write_whole};
+use lang_parts::{Form, read_front, write_whole};
+use lang_base::{FormError, Language, NoMemory};
 use std::alloc::Global;
 
 /// LTL, the third language of the pipeline.
 pub struct Ltl;
 
 impl Form for Ltl {
-    ghost use Rattle.machine.specs.LangBaseReading.{Reads};
-    ghost use Rattle.machine.specs.Texts.{Appends};
+    ghost use Rattle.lang_base.specs.Reading.{Reads};
+    ghost use Rattle.lang_base.specs.Texts.{Appends};
     ghost use Rattle.ltl.specs.Forms.{function_form};
     ghost use Rattle.ltl.specs.Function.{IsFunction};
     ghost use Rattle.ltl.specs.Reading.{function};

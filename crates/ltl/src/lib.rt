@@ -13,4 +13,3 @@ mod writing;
 pub use block::{Block, Body};
 pub use function::Function;
 pub use language::Ltl;
-pub use machine::{Act, Location, Move};

@@ -1,15 +1,15 @@
 //! Readers of the parts of a function. Each is one function on lists, which says the value and the
 //! bytes behind it, or the first fault.
 
-ghost use Rattle.machine.specs.LangBaseReading.{IsRead, Reads, items_of};
+ghost use Rattle.lang_base.specs.Reading.{IsRead, Reads, items_of};
 ghost use Rattle.ltl.specs.Reading.{going, calling, branch, plain, body, block, blocks, graph, parts, function};
 
 use crate::block::{Block, Body};
 use crate::function::Function;
-use machine::{
-    FormError, Location, Move, ReadOne, Row, are_bytes, read_act, read_byte, read_call, read_ends,
-    read_frame, read_moves, read_node, read_so_many, read_test, read_value,
-};
+use lang_base::{FormError, Row, read_byte};
+use locations::{Location, Move, read_call, read_frame, read_moves, read_value};
+use lang_parts::{ReadOne, are_bytes, read_ends, read_node, read_so_many};
+use machine::{read_act, read_test};
 use std::alloc::Global;
 
 /// The successor, and the moves behind the instruction.

@@ -1,7 +1,7 @@
 //! Writers of the parts of a function: each appends the text.
 
 ghost use Rattle.std.specs.Prelude.{◌≤◌, ◌∷◌, length};
-ghost use Rattle.machine.specs.Texts.{Appends};
+ghost use Rattle.lang_base.specs.Texts.{Appends};
 ghost use Rattle.machine.specs.Fits.{move_limit, argument_limit};
 ghost use Rattle.ltl.specs.declared.block.Body.TheVariants.{Branch};
 ghost use Rattle.ltl.specs.Function.{HasShortLists, after_of, arguments_of};
@@ -9,10 +9,10 @@ ghost use Rattle.ltl.specs.Spelling.{any_code, any_body, going_text, body_text, 
 
 use crate::block::{Block, Body};
 use crate::function::Function;
-use machine::{
-    Act, Move, NoMemory, Test, WriteOne, push_act, push_byte, push_call, push_each, push_frame,
-    push_moves, push_test, push_u16, push_value,
-};
+use machine::{Act, Test, push_act, push_test};
+use locations::{Move, push_call, push_frame, push_moves, push_value};
+use lang_base::{NoMemory, push_byte, push_u16};
+use lang_parts::{WriteOne, push_each};
 
 /// The successor, and the moves behind the instruction.
 fn push_going(out: &mut Vec<u8>, successor: u16, after: &[Move]) -> Result<(), NoMemory>

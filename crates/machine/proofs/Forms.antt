@@ -2,7 +2,7 @@
 use Rattle.std.proofs.Common.{◌≡◌, ℕ, ◌<◌, ◌^◌, List, ◌++◌, Option, Ok, inl, inr, refl, sym, subst, arith}
 use Rattle.std.specs.Prelude.{◌⊎◌}
 use Rattle.std.specs.Int.{w16, w32, to_be_bytes}
-use Rattle.locations.specs.LangBaseReading.{byte, number, decoded, both, unknown}
+use Rattle.lang_base.specs.Reading.{byte, number, decoded, both, unknown}
 use Rattle.lang_base.proofs.Forms.{IsForm}
 use Rattle.lang_base.proofs.Parts.{byte_form, number32_form, made_takes, made_again, made_form, decoded_form, both_form}
 use Rattle.lang_base.proofs.Lists.{HasCode, TakesBehind, unknown_takes, follow_form}
@@ -21,7 +21,7 @@ use Rattle.machine.specs.declared.arguments.Arguments.{Arguments}
 use Rattle.machine.specs.declared.arguments.Arguments.TheVariants.{One, Two}
 use Rattle.machine.specs.declared.act.Act.{Act}
 use Rattle.machine.specs.declared.act.Act.TheVariants.{Constant, Operate, Load, Store, Put}
-use Rattle.locations.specs.Limits.{global}
+use Rattle.lang_parts.specs.Limits.{global}
 use Rattle.machine.specs.Fits.{GlobalFits, ArgumentsFit, ActFits, TestFits}
 use Rattle.machine.specs.Spelling.{arguments_text, test_text, act_code, act_body}
 use Rattle.machine.specs.Reading.{arguments, asked, constant, operation, load, store, put, acts, act}

@@ -1,7 +1,7 @@
 -- How the parts that LTL and Linear share are read.
 use Rattle.std.specs.Prelude.{ℕ, [], ◌∷◌, ◌==◌, if◌then◌else◌}
 use Rattle.std.specs.Int.{w32}
-use Rattle.locations.specs.LangBaseReading.{Reading, byte, number, made, decoded, both, Table, follow, unknown}
+use Rattle.lang_base.specs.Reading.{Reading, byte, number, made, decoded, both, Table, follow, unknown}
 use Rattle.ints.specs.Codes.{op_of_code, argument_count_of}
 use Rattle.ints.specs.Conditions.{cond_of_code, cond_argument_count_of}
 use Rattle.locations.specs.Reading.{register, value}
@@ -10,7 +10,7 @@ use Rattle.machine.specs.declared.arguments.Arguments.TheVariants.{One, Two}
 use Rattle.machine.specs.declared.act.Act.{Act}
 use Rattle.machine.specs.declared.act.Act.TheVariants.{Constant, Operate, Load, Store, Put}
 use Rattle.machine.specs.declared.test.Test.{Test}
-use Rattle.locations.specs.Limits.{global}
+use Rattle.lang_parts.specs.Limits.{global}
 unfoldable pub use Rattle.locations.specs.Reading.{register, value, location, one_move, moves, call, frame}
 
 -- one register, or two

@@ -1,14 +1,16 @@
 //! Readers of plain instructions and tests. Each is one function on lists, which says the value and
 //! the bytes behind it, or the first fault.
 
-ghost use Rattle.locations.specs.LangBaseReading.{IsRead};
+ghost use Rattle.lang_base.specs.Reading.{IsRead};
 ghost use Rattle.machine.specs.Reading.{arguments, asked, constant, operation, load, store, put, act};
 
 use crate::act::Act;
 use crate::arguments::Arguments;
 use crate::test::Test;
 use ints::{Cond, Op};
-use locations::{FormError, read_byte, read_global, read_register, read_u32, read_value};
+use lang_base::{FormError, read_byte, read_u32};
+use lang_parts::read_global;
+use locations::{read_register, read_value};
 
 /// One register or two.
 #[tactic(auto, unfolding(crate::specs::Reading::arguments))]

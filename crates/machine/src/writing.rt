@@ -1,13 +1,14 @@
 //! Writers of plain instructions and tests: each appends the text.
 
 ghost use Rattle.std.specs.Prelude.{◌≡◌, ◌∷◌};
-ghost use Rattle.locations.specs.Texts.{Appends};
+ghost use Rattle.lang_base.specs.Texts.{Appends};
 ghost use Rattle.machine.specs.Spelling.{arguments_text, test_text, act_code, act_body};
 
 use crate::act::Act;
 use crate::arguments::Arguments;
 use crate::test::Test;
-use locations::{NoMemory, push_byte, push_u16, push_u32, push_value};
+use lang_base::{NoMemory, push_byte, push_u16, push_u32};
+use locations::push_value;
 
 fn push_arguments(out: &mut Vec<u8>, arguments: &Arguments) -> Result<(), NoMemory>
     ensures { Appends result (arguments_text arguments.now) out.old.items out.new.items }

@@ -1,7 +1,9 @@
 //! The certificate: at each marked node, that each live register's word lies in the register's location.
 
 use crate::register_set::RegisterSet;
-use alloc_check::{Equation, EquationLists, NodeRow};
+use alloc_check_rules::Equation;
+use alloc_check_verdict::EquationLists;
+use rtl_passes_marks::NodeRow;
 use lang_base::{NoMemory, Row};
 use oracle_alloc_blocks::Assignment;
 use std::alloc::Global;

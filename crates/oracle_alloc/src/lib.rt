@@ -14,7 +14,6 @@ mod propose;
 mod register_set;
 mod worth;
 
-pub use alloc_check::{Alloc, Equation, EquationLists, NodeRow};
 pub use liveness::live_before;
 pub use parts::{copied_by, defined_by, edges_of};
 pub use propose::AllocOracle;

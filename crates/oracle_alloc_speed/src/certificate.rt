@@ -2,7 +2,10 @@
 
 use lang_base::{NoMemory, Row};
 use oracle_alloc_blocks::Assignment;
-use oracle_webs::{Equation, EquationLists, NodeRow, Places, Webs};
+use alloc_check_rules::Equation;
+use alloc_check_verdict::EquationLists;
+use rtl_passes_marks::NodeRow;
+use oracle_webs::{Places, Webs};
 use std::alloc::Global;
 
 fn equations_at(

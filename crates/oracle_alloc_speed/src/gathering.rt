@@ -3,7 +3,8 @@
 use crate::classes::Classes;
 use lang_base::NoMemory;
 use oracle_graphs::weight_at;
-use oracle_webs::{Places, Webs, defined_by};
+use oracle_webs::{Places, Webs};
+use oracle_alloc::defined_by;
 use rtl_language::{Function, Instruction};
 use rtl_parts::{Act, Arguments, Register};
 use std::alloc::Global;

@@ -13,5 +13,4 @@ mod placing;
 mod propose;
 mod slots;
 
-pub use oracle_webs::EquationLists;
 pub use propose::AllocSpeed;

@@ -11,9 +11,10 @@ use lang_base::{NoMemory, Oracle, Row};
 use ltl::Function;
 use oracle_alloc_blocks::{Assignment, are_distinct, blocks_for, locations_of};
 use oracle_graphs::{Edges, depths_of};
-use oracle_webs::{
-    Alloc, AllocOracle, EquationLists, Places, Webs, all_renamed, edges_of, live_before, webs_of,
-};
+use alloc_check::Alloc;
+use oracle_alloc::{AllocOracle, edges_of, live_before};
+use alloc_check_verdict::EquationLists;
+use oracle_webs::{Places, Webs, all_renamed, webs_of};
 use rand_core::utils::NextWord;
 use rand_pcg::Pcg32;
 use rtl_language::Instruction;

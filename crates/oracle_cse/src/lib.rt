@@ -8,5 +8,4 @@ mod numbering;
 mod propose;
 mod worthwhile;
 
-pub use oracle_alloc::{AllocOracle, EquationLists};
 pub use propose::{CseOracle, CseSpeed};

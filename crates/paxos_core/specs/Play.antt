@@ -1,11 +1,11 @@
 -- What a play of a room shows, whoever plays it: in one thread or in many.
 use Rattle.std.specs.Prelude.{◌≡◌, ℕ, ◌<◌, List, Some}
-use Rattle.paxos_core_late_offers.specs.KeptPart.{KeptPart}
-use Rattle.paxos_core_late_offers.specs.Quorum.{Sizes, AreQuorums}
-use Rattle.paxos_core_late_offers.specs.Settled.{Settled}
-use Rattle.paxos_core_late_offers.specs.Step.{Label}
-use Rattle.paxos_core_late_offers.specs.World.{Has}
-use Rattle.paxos_core_late_offers.specs.Agreement.{IsSettledRun, world_of}
+use Rattle.paxos_core_world.specs.KeptPart.{KeptPart}
+use Rattle.paxos_core_world.specs.Quorum.{Sizes, AreQuorums}
+use Rattle.paxos_core_world.specs.Settled.{Settled}
+use Rattle.paxos_core_world.specs.Step.{Label}
+use Rattle.paxos_core_world.specs.World.{Has}
+use Rattle.paxos_core_model.specs.Agreement.{IsSettledRun, world_of}
 use Rattle.paxos_core.specs.Schedule.{NodeCall, opened, played, IsSchedule, steps_of}
 
 -- the steps that were taken are a run from settled kept parts, and at its end each node has learned v, and none

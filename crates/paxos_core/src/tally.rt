@@ -1,8 +1,8 @@
 ghost use Rattle.std.specs.Prelude.{◌≡◌, ◌≤◌, length};
-ghost use Rattle.paxos_core_late_offers.specs.Notes.{has_promised, has_voted, is_under, higher, highest_below};
-ghost use Rattle.paxos_core_late_offers.specs.Quorum.{count_below};
+ghost use Rattle.paxos_core_law.specs.Notes.{has_promised, has_voted, is_under, higher, highest_below};
+ghost use Rattle.paxos_core_world.specs.Quorum.{count_below};
 
-use paxos_core_late_offers::vote::Vote;
+use paxos_core_world::vote::Vote;
 
 /// How many of the first `count` nodes have promised.
 pub fn count_promises(promises: &[Option<Option<Vote>>], count: usize) -> usize

@@ -7,9 +7,9 @@ use Rattle.paxos_core_world.specs.Run.{IsRun, reached}
 use Rattle.paxos_core_world.specs.Settled.{Settled}
 use Rattle.paxos_core_world.specs.Step.{Label}
 use Rattle.paxos_core_world.specs.World.{World, Has, opening}
-use Rattle.paxos_core_law.proofs.Reopens.{reached-append, run_append, reopenings_learn_as_before}
-use Rattle.paxos_core_law.proofs.Theorem.{runs_stay_settled}
-use Rattle.paxos_core_law.specs.Agreement.{world_of}
+use Rattle.paxos_core_model.proofs.Reopens.{reached-append, run_append, reopenings_learn_as_before}
+use Rattle.paxos_core_model.proofs.Theorem.{runs_stay_settled}
+use Rattle.paxos_core_model.specs.Agreement.{world_of}
 use Rattle.paxos_core_law.specs.Reached.{IsReached}
 use Rattle.paxos_core_law.proofs.WorldLemmas.{grows_by}
 use Rattle.paxos_core_crash.specs.Crash.{IsRecorded, IsLeftByCrash, IsLeftByRun, CrashesAreRuns, CrashesLearnAsBefore, CrashesLeaveSettled}

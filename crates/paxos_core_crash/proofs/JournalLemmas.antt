@@ -8,7 +8,7 @@ use Rattle.paxos_core_world.specs.Step.{Label, Offers, after}
 use Rattle.paxos_core_world.specs.World.{World}
 use Rattle.paxos_core_world.specs.declared.msg.Msg.{Msg}
 use Rattle.paxos_core_world.specs.declared.msg.Msg.TheVariants.{Prepare, Propose}
-use Rattle.paxos_core_law.proofs.Reopens.{reached-append, run_append}
+use Rattle.paxos_core_model.proofs.Reopens.{reached-append, run_append}
 use Rattle.paxos_core_law.specs.Acceptor.{promises, accepts}
 use Rattle.paxos_core_law.specs.Belongs.{Belongs}
 use Rattle.paxos_core_law.specs.NodeState.{NodeState, offered}

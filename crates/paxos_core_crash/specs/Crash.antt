@@ -8,7 +8,7 @@ use Rattle.paxos_core_world.specs.Settled.{Settled}
 use Rattle.paxos_core_world.specs.Step.{Label}
 use Rattle.paxos_core_world.specs.World.{World, Has, opening}
 use Rattle.paxos_core_world.specs.declared.msg.Msg.TheVariants.{Prepare, Propose}
-use Rattle.paxos_core_law.specs.Agreement.{LearnsAs}
+use Rattle.paxos_core_model.specs.Agreement.{LearnsAs}
 use Rattle.paxos_core_law.specs.NodeState.{NodeState}
 use Rattle.paxos_core_law.specs.Reached.{IsReached}
 use Rattle.paxos_core_law.specs.Takes.{AreStepsOf}

@@ -1,12 +1,2 @@
 pub mod Invariant
 pub mod Kept
-pub use Rattle.paxos_core_world.specs.Ballot
-pub use Rattle.paxos_core_world.specs.Farm
-pub use Rattle.paxos_core_world.specs.KeptPart
-pub use Rattle.paxos_core_world.specs.Quorum
-pub use Rattle.paxos_core_world.specs.Run
-pub use Rattle.paxos_core_world.specs.Settled
-pub use Rattle.paxos_core_world.specs.Step
-pub use Rattle.paxos_core_world.specs.World
-pub use Rattle.paxos_core_world.specs.declared.msg.Msg
-pub use Rattle.paxos_core_world.specs.declared.vote.Vote

@@ -4,4 +4,3 @@
 
 pub mod law;
 
-pub use paxos_core_world::{ballot, kept, msg, quorum, vote};

@@ -1,15 +1,15 @@
 -- A node whose offer the run has at the latest with the proposal of its own number.
 use Rattle.std.proofs.Common.{◌≡◌, ℕ, ◌<◌, ◌≤◌, ◌⊎◌, Bool, true, false, cond, ◌&&◌, not, List, [], ◌∷◌, ◌++◌, Option, Some, None, is_some, is_none, IfSome, refl, sym, ap, subst, inl, inr}
 use Rattle.std.proofs.lemmas.Bool.{and_parts}
-use Rattle.paxos_core_law.specs.KeptPart.{KeptPart, with_offer, without_offer, vote}
-use Rattle.paxos_core_law.specs.Quorum.{Sizes}
-use Rattle.paxos_core_law.specs.Run.{reached}
-use Rattle.paxos_core_law.specs.PaxosCoreWorldStep.{Label, Offers, after}
-use Rattle.paxos_core_law.specs.World.{World, Has}
-use Rattle.paxos_core_law.specs.Msg.{Msg}
-use Rattle.paxos_core_law.specs.Msg.TheVariants.{Prepare, Promise, Propose, Accepted}
-use Rattle.paxos_core_law.specs.Vote.{Vote}
-use Rattle.paxos_core_law.proofs.Reopens.{reached-append, run_append}
+use Rattle.paxos_core_world.specs.KeptPart.{KeptPart, with_offer, without_offer, vote}
+use Rattle.paxos_core_world.specs.Quorum.{Sizes}
+use Rattle.paxos_core_world.specs.Run.{reached}
+use Rattle.paxos_core_world.specs.Step.{Label, Offers, after}
+use Rattle.paxos_core_world.specs.World.{World, Has}
+use Rattle.paxos_core_world.specs.declared.msg.Msg.{Msg}
+use Rattle.paxos_core_world.specs.declared.msg.Msg.TheVariants.{Prepare, Promise, Propose, Accepted}
+use Rattle.paxos_core_world.specs.declared.vote.Vote.{Vote}
+use Rattle.paxos_core_model.proofs.Reopens.{reached-append, run_append}
 use Rattle.paxos_core_law.specs.Acceptor.{promises, accepts}
 use Rattle.paxos_core_law.specs.Belongs.{Belongs}
 use Rattle.paxos_core_late_offers.specs.LateOffer.{unoffered, BelongsWithLateOffer, proposes_own, owes_offer, taken_late_by_propose, TakesLate, TakesStepsLate, OffersMayBeLate, OthersLeaveIt}

@@ -1,13 +1,13 @@
 -- A node whose offer stands in a cell of its own, which is no part of the world: the run has the offer at the latest with the
 -- step by which the node proposes its own number. Until then the world may show all that the node keeps but the offer.
 use Rattle.std.specs.Prelude.{◌≡◌, ◌≢◌, ℕ, ◌<◌, ◌≤◌, ◌⊎◌, Bool, ◌&&◌, not, if◌then◌else◌, List, [], ◌∷◌, ◌++◌, Option, Some, None, is_some, is_none, IfSome}
-use Rattle.paxos_core_law.specs.KeptPart.{KeptPart, without_offer}
-use Rattle.paxos_core_law.specs.Quorum.{Sizes}
-use Rattle.paxos_core_law.specs.Run.{IsRun, reached}
-use Rattle.paxos_core_law.specs.PaxosCoreWorldStep.{Label, Offers, after}
-use Rattle.paxos_core_law.specs.World.{World, Has}
-use Rattle.paxos_core_law.specs.Msg.{Msg}
-use Rattle.paxos_core_law.specs.Msg.TheVariants.{Prepare}
+use Rattle.paxos_core_world.specs.KeptPart.{KeptPart, without_offer}
+use Rattle.paxos_core_world.specs.Quorum.{Sizes}
+use Rattle.paxos_core_world.specs.Run.{IsRun, reached}
+use Rattle.paxos_core_world.specs.Step.{Label, Offers, after}
+use Rattle.paxos_core_world.specs.World.{World, Has}
+use Rattle.paxos_core_world.specs.declared.msg.Msg.{Msg}
+use Rattle.paxos_core_world.specs.declared.msg.Msg.TheVariants.{Prepare}
 use Rattle.paxos_core_law.specs.Belongs.{Belongs}
 use Rattle.paxos_core_law.specs.Message.{reply, after_message}
 use Rattle.paxos_core_law.specs.NodeState.{NodeState, offered, restarted}

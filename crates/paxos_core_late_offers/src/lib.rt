@@ -4,5 +4,4 @@
 
 mod theorem;
 
-pub use paxos_core_law::{ballot, kept, msg, promises, quorum, settled, step, vote};
 pub use theorem::late_offers;

@@ -1,11 +1,11 @@
 -- What keeps a node in its world: steps of others, and what it notes.
 use Rattle.std.proofs.Common.{◌≡◌, ℕ, ◌<◌, Bool, set, Option, Some, refl, sym, ap, ◌∙◌, inl, inr}
-use Rattle.paxos_core_model.specs.KeptPart.{KeptPart}
-use Rattle.paxos_core_model.specs.Quorum.{Sizes}
-use Rattle.paxos_core_model.specs.Step.{Label, after}
-use Rattle.paxos_core_model.specs.World.{World, Has}
-use Rattle.paxos_core_model.specs.Msg.TheVariants.{Promise, Accepted}
-use Rattle.paxos_core_model.specs.Vote.{Vote}
+use Rattle.paxos_core_world.specs.KeptPart.{KeptPart}
+use Rattle.paxos_core_world.specs.Quorum.{Sizes}
+use Rattle.paxos_core_world.specs.Step.{Label, after}
+use Rattle.paxos_core_world.specs.World.{World, Has}
+use Rattle.paxos_core_world.specs.declared.msg.Msg.TheVariants.{Promise, Accepted}
+use Rattle.paxos_core_world.specs.declared.vote.Vote.{Vote}
 use Rattle.paxos_core_law.specs.Belongs.{Belongs, IsUnderWay}
 use Rattle.paxos_core_law.specs.NodeState.{NodeState, node_with}
 use Rattle.paxos_core_law.specs.Takes.{IsStepOf}

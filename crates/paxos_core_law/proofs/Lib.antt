@@ -5,6 +5,3 @@ pub mod ReachedLemmas
 pub mod BelongsLemmas
 pub mod TakesLemmas
 pub mod WouldLemmas
-pub use Rattle.paxos_core_model.proofs.Reopens
-pub use Rattle.paxos_core_model.proofs.Theorem
-pub use Rattle.paxos_core_model.proofs.PaxosCoreWorldQuorums

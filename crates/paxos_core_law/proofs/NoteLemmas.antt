@@ -1,7 +1,7 @@
 -- Facts about what a node has noted: a place that is set, the counts, and the highest report.
 use Rattle.std.proofs.Common.{◌≡◌, ℕ, zero, suc, ◌<◌, ◌≤◌, ◌⊎◌, Bool, true, false, cond, ltb, List, [], ◌∷◌, set, replicate, Option, Some, None, is_some, refl, sym, ap, ◌∙◌, inl, inr, arith}
 use Rattle.std.proofs.lemmas.Bool.{ltb-true, ltb-false, eqb-true, cases_lt}
-use Rattle.paxos_core_model.specs.Vote.{Vote}
+use Rattle.paxos_core_world.specs.declared.vote.Vote.{Vote}
 use Rattle.paxos_core_law.specs.NodeState.{nothing_noted}
 use Rattle.paxos_core_law.specs.Notes.{note_of, has_promised, reported, report_of, is_under, has_voted, higher, highest_below}
 

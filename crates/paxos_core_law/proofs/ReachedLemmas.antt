@@ -1,10 +1,10 @@
 -- What the theorem of the model gives of a world that can come about.
 use Rattle.std.proofs.Common.{◌≡◌, ℕ, ◌<◌, ◌≤◌, sym, subst}
-use Rattle.paxos_core_model.specs.Ballot.{Owns}
-use Rattle.paxos_core_model.specs.Quorum.{Sizes}
-use Rattle.paxos_core_model.specs.World.{World, Has}
-use Rattle.paxos_core_model.specs.Msg.TheVariants.{Propose, Accepted}
-use Rattle.paxos_core_model.specs.Invariant.{Invariant}
+use Rattle.paxos_core_world.specs.Ballot.{Owns}
+use Rattle.paxos_core_world.specs.Quorum.{Sizes}
+use Rattle.paxos_core_world.specs.World.{World, Has}
+use Rattle.paxos_core_world.specs.declared.msg.Msg.TheVariants.{Propose, Accepted}
+use Rattle.paxos_core_invariant.specs.Invariant.{Invariant}
 use Rattle.paxos_core_model.proofs.Theorem.{holds, learns_one}
 use Rattle.paxos_core_law.specs.Reached.{IsReached}
 

@@ -1,14 +1,14 @@
 -- Each call of a node is what it is said to be in the world.
 use Rattle.std.proofs.Common.{◌≡◌, ℕ, ◌<◌, ◌≤◌, ◌⊎◌, Bool, true, false, cond, not, ◌&&◌, ltb, [], ◌∷◌, set, Option, Some, None, is_none, IsTrue, IfSome, refl, sym, ap, ◌∙◌, subst, inl, inr, arith}
 use Rattle.std.proofs.lemmas.Bool.{ltb-true, leb-true, eqb-true, and_parts, not-true}
-use Rattle.paxos_core_model.specs.Ballot.{Owns}
-use Rattle.paxos_core_model.specs.KeptPart.{KeptPart, with_offer, with_start, with_promise, with_vote, vote}
-use Rattle.paxos_core_model.specs.Quorum.{Sizes, is_promise_quorum, is_accept_quorum, IsPromiseQuorum, IsAcceptQuorum}
-use Rattle.paxos_core_model.specs.Step.{Label, Offers, Starts, Promises, Proposes, Accepts, Learns, Restarts, Allowed, after, HasOffered, NamesNone, IsHighest, IsSafeChoice, IsChosen}
-use Rattle.paxos_core_model.specs.World.{World, Has}
-use Rattle.paxos_core_model.specs.Msg.{Msg}
-use Rattle.paxos_core_model.specs.Msg.TheVariants.{Prepare, Promise, Propose, Accepted}
-use Rattle.paxos_core_model.specs.Vote.{Vote}
+use Rattle.paxos_core_world.specs.Ballot.{Owns}
+use Rattle.paxos_core_world.specs.KeptPart.{KeptPart, with_offer, with_start, with_promise, with_vote, vote}
+use Rattle.paxos_core_world.specs.Quorum.{Sizes, is_promise_quorum, is_accept_quorum, IsPromiseQuorum, IsAcceptQuorum}
+use Rattle.paxos_core_world.specs.Step.{Label, Offers, Starts, Promises, Proposes, Accepts, Learns, Restarts, Allowed, after, HasOffered, NamesNone, IsHighest, IsSafeChoice, IsChosen}
+use Rattle.paxos_core_world.specs.World.{World, Has}
+use Rattle.paxos_core_world.specs.declared.msg.Msg.{Msg}
+use Rattle.paxos_core_world.specs.declared.msg.Msg.TheVariants.{Prepare, Promise, Propose, Accepted}
+use Rattle.paxos_core_world.specs.declared.vote.Vote.{Vote}
 use Rattle.paxos_core_law.specs.Acceptor.{promises, accepts}
 use Rattle.paxos_core_law.specs.Belongs.{Belongs, IsUnderWay}
 use Rattle.paxos_core_law.specs.Learner.{is_report, is_under_way, notes_promise, notes_vote, votes_with, learned_with}

@@ -1,13 +1,13 @@
 -- Facts about a world after a step: what only grows, whose kept part stays, and what is not proposed.
 use Rattle.std.proofs.Common.{◌≡◌, ℕ, eqb, List, [], ◌∷◌, refl, sym, ◌∙◌, inl, inr}
 use Rattle.std.proofs.lemmas.Bool.{eq-eqb, ne_eqb, cond-true, cond-false}
-use Rattle.paxos_core_model.specs.Ballot.{Owns}
-use Rattle.paxos_core_model.specs.KeptPart.{KeptPart}
-use Rattle.paxos_core_model.specs.Run.{reached}
-use Rattle.paxos_core_model.specs.Step.{Label, Offers, Starts, Promises, Proposes, Accepts, Learns, Restarts, after}
-use Rattle.paxos_core_model.specs.World.{World, Has, put}
-use Rattle.paxos_core_model.specs.Msg.{Msg}
-use Rattle.paxos_core_model.specs.Msg.TheVariants.{Propose}
+use Rattle.paxos_core_world.specs.Ballot.{Owns}
+use Rattle.paxos_core_world.specs.KeptPart.{KeptPart}
+use Rattle.paxos_core_world.specs.Run.{reached}
+use Rattle.paxos_core_world.specs.Step.{Label, Offers, Starts, Promises, Proposes, Accepts, Learns, Restarts, after}
+use Rattle.paxos_core_world.specs.World.{World, Has, put}
+use Rattle.paxos_core_world.specs.declared.msg.Msg.{Msg}
+use Rattle.paxos_core_world.specs.declared.msg.Msg.TheVariants.{Propose}
 use Rattle.paxos_core_law.specs.Takes.{IsStepOf}
 
 -- messages, begun ballots and learned values of w are also those of v

@@ -1,9 +1,9 @@
 -- What a node tells is what it does.
 use Rattle.std.proofs.Common.{◌≡◌, ℕ, Bool, true, false, cond, leb, [], ◌∷◌, Option, Some, None, refl, ap}
 use Rattle.std.specs.Option.{option_map}
-use Rattle.paxos_core_model.specs.KeptPart.{with_promise, with_vote, vote}
-use Rattle.paxos_core_model.specs.Step.{Starts, Promises, Accepts}
-use Rattle.paxos_core_model.specs.Vote.{Vote}
+use Rattle.paxos_core_world.specs.KeptPart.{with_promise, with_vote, vote}
+use Rattle.paxos_core_world.specs.Step.{Starts, Promises, Accepts}
+use Rattle.paxos_core_world.specs.declared.vote.Vote.{Vote}
 use Rattle.paxos_core_law.specs.declared.step.Act.{Act}
 use Rattle.paxos_core_law.specs.declared.step.Act.TheVariants as act
 use Rattle.paxos_core_law.specs.declared.step.Step.TheVariants as step

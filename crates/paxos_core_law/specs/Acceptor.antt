@@ -1,10 +1,10 @@
 -- The acceptor (Lamport, Paxos Made Simple, section 2.2): phase 1b promises to take no lower ballot, and reports its
 -- vote; phase 2b votes for what is proposed, unless it has promised a higher ballot.
 use Rattle.std.specs.Prelude.{ℕ, nat_lt, nat_le, Bool, ◌&&◌, if◌then◌else◌, Option, Some, None}
-use Rattle.paxos_core_model.specs.KeptPart.{with_promise, with_vote}
-use Rattle.paxos_core_model.specs.Msg.{Msg}
-use Rattle.paxos_core_model.specs.Msg.TheVariants.{Promise, Accepted}
-use Rattle.paxos_core_model.specs.Vote.{Vote}
+use Rattle.paxos_core_world.specs.KeptPart.{with_promise, with_vote}
+use Rattle.paxos_core_world.specs.declared.msg.Msg.{Msg}
+use Rattle.paxos_core_world.specs.declared.msg.Msg.TheVariants.{Promise, Accepted}
+use Rattle.paxos_core_world.specs.declared.vote.Vote.{Vote}
 use Rattle.paxos_core_law.specs.NodeState.{NodeState}
 
 -- a vote that can be: under a ballot from 1, for the number of one of n nodes

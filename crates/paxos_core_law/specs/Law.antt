@@ -1,10 +1,10 @@
 -- The promises of the definitions of a node: each call is a step of the protocol.
 use Rattle.std.specs.Prelude.{◌≡◌, ℕ, ◌<◌, ◌≤◌, Some, None}
-use Rattle.paxos_core_model.specs.KeptPart.{KeptPart}
-use Rattle.paxos_core_model.specs.Quorum.{Sizes}
-use Rattle.paxos_core_model.specs.World.{World}
-use Rattle.paxos_core_model.specs.Msg.{Msg}
-use Rattle.paxos_core_model.specs.Msg.TheVariants.{Prepare}
+use Rattle.paxos_core_world.specs.KeptPart.{KeptPart}
+use Rattle.paxos_core_world.specs.Quorum.{Sizes}
+use Rattle.paxos_core_world.specs.World.{World}
+use Rattle.paxos_core_world.specs.declared.msg.Msg.{Msg}
+use Rattle.paxos_core_world.specs.declared.msg.Msg.TheVariants.{Prepare}
 use Rattle.paxos_core_law.specs.declared.step.Act.{Act}
 use Rattle.paxos_core_law.specs.declared.step.Act.TheVariants as act
 use Rattle.paxos_core_law.specs.Message.{reply, after_message}

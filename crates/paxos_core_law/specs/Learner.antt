@@ -1,8 +1,8 @@
 -- What a node notes of the others' promises and votes, and the learner (Lamport, Paxos Made Simple, section 2.3): a
 -- value is learned once an accept quorum has voted under one ballot.
 use Rattle.std.specs.Prelude.{ℕ, ◌==◌, nat_lt, nat_le, Bool, true, false, ◌&&◌, if◌then◌else◌, List, Option, Some, None, slice_set}
-use Rattle.paxos_core_model.specs.Quorum.{is_accept_quorum}
-use Rattle.paxos_core_model.specs.Vote.{Vote}
+use Rattle.paxos_core_world.specs.Quorum.{is_accept_quorum}
+use Rattle.paxos_core_world.specs.declared.vote.Vote.{Vote}
 use Rattle.paxos_core_law.specs.Acceptor.{is_vote}
 use Rattle.paxos_core_law.specs.NodeState.{NodeState}
 use Rattle.paxos_core_law.specs.Notes.{note_of, has_voted}

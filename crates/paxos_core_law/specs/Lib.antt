@@ -11,15 +11,3 @@ pub mod Taken
 pub mod Takes
 pub mod Would
 pub mod Law
-pub use Rattle.paxos_core_model.specs.Agreement
-pub use Rattle.paxos_core_model.specs.OneCode
-pub use Rattle.paxos_core_model.specs.Ballot
-pub use Rattle.paxos_core_model.specs.KeptPart
-pub use Rattle.paxos_core_model.specs.Quorum
-pub use Rattle.paxos_core_model.specs.Run
-pub use Rattle.paxos_core_model.specs.Settled
-pub use Rattle.paxos_core_model.specs.Step as PaxosCoreWorldStep
-pub use Rattle.paxos_core_model.specs.World
-pub use Rattle.paxos_core_model.specs.Msg
-pub use Rattle.paxos_core_model.specs.Vote
-pub use Rattle.paxos_core_model.specs.Invariant

@@ -1,8 +1,8 @@
 -- What a node does with a message: the answer, and the node after it.
 use Rattle.std.specs.Prelude.{Option, None}
-use Rattle.paxos_core_model.specs.KeptPart.{vote}
-use Rattle.paxos_core_model.specs.Msg.{Msg}
-use Rattle.paxos_core_model.specs.Msg.TheVariants.{Prepare, Promise, Propose, Accepted}
+use Rattle.paxos_core_world.specs.KeptPart.{vote}
+use Rattle.paxos_core_world.specs.declared.msg.Msg.{Msg}
+use Rattle.paxos_core_world.specs.declared.msg.Msg.TheVariants.{Prepare, Promise, Propose, Accepted}
 use Rattle.paxos_core_law.specs.Acceptor.{promise_to, after_prepare, vote_for, after_propose}
 use Rattle.paxos_core_law.specs.Learner.{after_promise, after_vote}
 use Rattle.paxos_core_law.specs.NodeState.{NodeState}

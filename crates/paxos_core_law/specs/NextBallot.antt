@@ -1,7 +1,7 @@
 -- The ballot that a node starts next: proposers take their numbers from disjoint sets (Lamport, Paxos Made Simple,
 -- section 2.5), here by the remainder.
 use Rattle.std.specs.Prelude.{◌≡◌, ℕ, ◌+◌, ◌-◌, ◌%◌, ◌<◌, ◌≤◌, nat_le, if◌then◌else◌, Option, Some, None}
-use Rattle.paxos_core_model.specs.Ballot.{Owns}
+use Rattle.paxos_core_world.specs.Ballot.{Owns}
 
 -- of n nodes, the least number above `floor` whose remainder by n is i
 abbrev pub least_above : ℕ → ℕ → ℕ → ℕ

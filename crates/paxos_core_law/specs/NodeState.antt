@@ -1,8 +1,8 @@
 -- A node of a room at one moment: all that its calls read and change. Its kept part outlives a restart, the rest does not.
 use Rattle.std.specs.Prelude.{ℕ, Bool, false, List, replicate, Option, None}
-use Rattle.paxos_core_model.specs.KeptPart.{KeptPart, nothing_kept, with_offer}
-use Rattle.paxos_core_model.specs.Quorum.{Sizes}
-use Rattle.paxos_core_model.specs.Vote.{Vote}
+use Rattle.paxos_core_world.specs.KeptPart.{KeptPart, nothing_kept, with_offer}
+use Rattle.paxos_core_world.specs.Quorum.{Sizes}
+use Rattle.paxos_core_world.specs.declared.vote.Vote.{Vote}
 
 -- its number, the room's quorums, its kept part, the ballot that it has under way and whether it has proposed under
 -- it, by node the promises noted for that ballot with the votes that they report, by node the vote noted last, and the

@@ -1,6 +1,6 @@
 -- What a node has noted of the others: lists with a place for each node, none where nothing is noted.
 use Rattle.std.specs.Prelude.{ℕ, zero, suc, ◌==◌, nat_lt, Bool, false, if◌then◌else◌, List, Option, Some, None, is_some, slice_index_or}
-use Rattle.paxos_core_model.specs.Vote.{Vote}
+use Rattle.paxos_core_world.specs.declared.vote.Vote.{Vote}
 
 -- what is noted of node a
 abbrev pub note_of : {T : Type 0} → List (Option T) → ℕ → Option T

@@ -2,11 +2,11 @@
 -- own, and phase 2a proposes a value under it once a promise quorum has promised.
 use Rattle.std.specs.Prelude.{ℕ, max, Bool, true, false, ◌&&◌, not, Option, Some, None}
 use Rattle.std.specs.Option.{option_map}
-use Rattle.paxos_core_model.specs.KeptPart.{with_start}
-use Rattle.paxos_core_model.specs.Quorum.{is_promise_quorum}
-use Rattle.paxos_core_model.specs.Msg.{Msg}
-use Rattle.paxos_core_model.specs.Msg.TheVariants.{Propose}
-use Rattle.paxos_core_model.specs.Vote.{Vote}
+use Rattle.paxos_core_world.specs.KeptPart.{with_start}
+use Rattle.paxos_core_world.specs.Quorum.{is_promise_quorum}
+use Rattle.paxos_core_world.specs.declared.msg.Msg.{Msg}
+use Rattle.paxos_core_world.specs.declared.msg.Msg.TheVariants.{Propose}
+use Rattle.paxos_core_world.specs.declared.vote.Vote.{Vote}
 use Rattle.paxos_core_law.specs.NextBallot.{least_above}
 use Rattle.paxos_core_law.specs.NodeState.{NodeState, nothing_noted}
 use Rattle.paxos_core_law.specs.Notes.{has_promised, highest_below}

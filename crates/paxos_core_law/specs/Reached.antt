@@ -1,9 +1,9 @@
 -- The worlds that can come about: those of the runs from settled kept parts.
 use Rattle.std.specs.Prelude.{◌≡◌, ℕ, List}
-use Rattle.paxos_core_model.specs.KeptPart.{KeptPart}
-use Rattle.paxos_core_model.specs.Quorum.{Sizes}
-use Rattle.paxos_core_model.specs.Step.{Label}
-use Rattle.paxos_core_model.specs.World.{World}
+use Rattle.paxos_core_world.specs.KeptPart.{KeptPart}
+use Rattle.paxos_core_world.specs.Quorum.{Sizes}
+use Rattle.paxos_core_world.specs.Step.{Label}
+use Rattle.paxos_core_world.specs.World.{World}
 use Rattle.paxos_core_model.specs.Agreement.{IsSettledRun, world_of}
 
 -- with quorums of these sizes a run from settled kept parts leads to this world

@@ -1,11 +1,11 @@
 -- The steps of the protocol that each call of a node takes, the newest first.
 use Rattle.std.specs.Prelude.{◌≡◌, ℕ, if◌then◌else◌, Bool, ◌&&◌, List, [], ◌∷◌, Option, Some, is_none}
-use Rattle.paxos_core_model.specs.KeptPart.{vote}
-use Rattle.paxos_core_model.specs.Quorum.{is_accept_quorum}
-use Rattle.paxos_core_model.specs.Step.{Label, Offers, Starts, Promises, Proposes, Accepts, Learns, Restarts}
-use Rattle.paxos_core_model.specs.Msg.{Msg}
-use Rattle.paxos_core_model.specs.Msg.TheVariants.{Prepare, Promise, Propose, Accepted}
-use Rattle.paxos_core_model.specs.Vote.{Vote}
+use Rattle.paxos_core_world.specs.KeptPart.{vote}
+use Rattle.paxos_core_world.specs.Quorum.{is_accept_quorum}
+use Rattle.paxos_core_world.specs.Step.{Label, Offers, Starts, Promises, Proposes, Accepts, Learns, Restarts}
+use Rattle.paxos_core_world.specs.declared.msg.Msg.{Msg}
+use Rattle.paxos_core_world.specs.declared.msg.Msg.TheVariants.{Prepare, Promise, Propose, Accepted}
+use Rattle.paxos_core_world.specs.declared.vote.Vote.{Vote}
 use Rattle.paxos_core_law.specs.declared.step.Step.{Step}
 use Rattle.paxos_core_law.specs.declared.step.Step.TheVariants as step
 use Rattle.paxos_core_law.specs.Acceptor.{promises, accepts}

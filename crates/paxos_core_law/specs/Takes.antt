@@ -1,12 +1,12 @@
 -- What ties a call of a node to the protocol: in each world to which it belongs it takes steps that are allowed there,
 -- belongs to the world after them, and its answer was sent in it.
 use Rattle.std.specs.Prelude.{◌≡◌, ℕ, List, [], ◌∷◌, Option, IfSome}
-use Rattle.paxos_core_model.specs.Ballot.{Owns}
-use Rattle.paxos_core_model.specs.Quorum.{Sizes}
-use Rattle.paxos_core_model.specs.Run.{IsRun, reached}
-use Rattle.paxos_core_model.specs.Step.{Label, Offers, Starts, Promises, Proposes, Accepts, Learns, Restarts}
-use Rattle.paxos_core_model.specs.World.{World, Has}
-use Rattle.paxos_core_model.specs.Msg.{Msg}
+use Rattle.paxos_core_world.specs.Ballot.{Owns}
+use Rattle.paxos_core_world.specs.Quorum.{Sizes}
+use Rattle.paxos_core_world.specs.Run.{IsRun, reached}
+use Rattle.paxos_core_world.specs.Step.{Label, Offers, Starts, Promises, Proposes, Accepts, Learns, Restarts}
+use Rattle.paxos_core_world.specs.World.{World, Has}
+use Rattle.paxos_core_world.specs.declared.msg.Msg.{Msg}
 use Rattle.paxos_core_law.specs.Belongs.{Belongs}
 use Rattle.paxos_core_law.specs.NodeState.{NodeState}
 use Rattle.paxos_core_law.specs.Reached.{IsReached}

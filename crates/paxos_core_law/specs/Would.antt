@@ -1,10 +1,10 @@
 -- What a node would do if it were asked, told before it does it: the step, if it would take one.
 use Rattle.std.specs.Prelude.{◌≡◌, ℕ, if◌then◌else◌, nat_le, List, [], ◌∷◌, Option, Some, None}
 use Rattle.std.specs.Option.{option_map}
-use Rattle.paxos_core_model.specs.KeptPart.{KeptPart, with_start, with_promise, with_vote, vote}
-use Rattle.paxos_core_model.specs.Step.{Label}
-use Rattle.paxos_core_model.specs.Msg.TheVariants.{Prepare, Propose}
-use Rattle.paxos_core_model.specs.Vote.{Vote}
+use Rattle.paxos_core_world.specs.KeptPart.{KeptPart, with_start, with_promise, with_vote, vote}
+use Rattle.paxos_core_world.specs.Step.{Label}
+use Rattle.paxos_core_world.specs.declared.msg.Msg.TheVariants.{Prepare, Propose}
+use Rattle.paxos_core_world.specs.declared.vote.Vote.{Vote}
 use Rattle.paxos_core_law.specs.declared.step.Act.{Act}
 use Rattle.paxos_core_law.specs.declared.step.Act.TheVariants as act
 use Rattle.paxos_core_law.specs.declared.step.Step.{Step}

@@ -6,4 +6,3 @@
 pub mod law;
 pub mod step;
 
-pub use paxos_core_model::{ballot, kept, msg, promises, quorum, settled, vote};

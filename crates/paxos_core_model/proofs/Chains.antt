@@ -1,11 +1,11 @@
 -- The farm: nodes that link a function link the same code, and the offers that they learned chain.
 use Rattle.std.proofs.Common.{◌≡◌, ℕ, zero, suc, ◌<◌, ◌≤◌, ◌⊎◌, Bool, true, false, cond, ◌&&◌, IsTrue, List, [], ◌∷◌, inl, inr, refl, sym, ap, subst, ◌∙◌, arith, eqb, eqb-true, eq-eqb}
 use Rattle.std.proofs.lemmas.Bool.{and_parts}
-use Rattle.paxos_core_invariant.specs.Farm.{Farm, FarmLabel, Offering, Stepping, Offer, IsPass, IsInput, IsNoOffer, FarmAllowed, IsFarmRun, farm_after, farm_reached, farm_opening, empty_farm, put_room, put_offer, Follows}
-use Rattle.paxos_core_invariant.specs.KeptPart.{KeptPart, with_offer}
-use Rattle.paxos_core_invariant.specs.Quorum.{Sizes, AreQuorums}
-use Rattle.paxos_core_invariant.specs.Step.{Label, Offers, Allowed, after, HasOffered}
-use Rattle.paxos_core_invariant.specs.World.{World, Has, no_nodes}
+use Rattle.paxos_core_world.specs.Farm.{Farm, FarmLabel, Offering, Stepping, Offer, IsPass, IsInput, IsNoOffer, FarmAllowed, IsFarmRun, farm_after, farm_reached, farm_opening, empty_farm, put_room, put_offer, Follows}
+use Rattle.paxos_core_world.specs.KeptPart.{KeptPart, with_offer}
+use Rattle.paxos_core_world.specs.Quorum.{Sizes, AreQuorums}
+use Rattle.paxos_core_world.specs.Step.{Label, Offers, Allowed, after, HasOffered}
+use Rattle.paxos_core_world.specs.World.{World, Has, no_nodes}
 use Rattle.paxos_core_invariant.specs.Invariant.{Invariant}
 use Rattle.paxos_core_invariant.proofs.Keeps.{keeps}
 use Rattle.paxos_core_invariant.proofs.Moves.{put_cases, node_cases, learned_stays}

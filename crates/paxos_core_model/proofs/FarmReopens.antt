@@ -1,10 +1,10 @@
 -- A farm that is opened again from the kept parts and offers that a run left goes on as that run would.
 use Rattle.std.proofs.Common.{◌≡◌, ℕ, zero, suc, Bool, true, false, cond, ◌&&◌, IsTrue, List, [], ◌∷◌, ◌++◌, inl, inr, refl, sym, ap, subst, ◌∙◌, arith, eqb}
-use Rattle.paxos_core_invariant.specs.Farm.{Farm, FarmLabel, Offering, Stepping, Offer, IsPass, IsInput, FarmAllowed, IsFarmRun, farm_after, farm_opening, farm_reached, reopened, KeepsOffers, put_room, Links}
-use Rattle.paxos_core_invariant.specs.KeptPart.{KeptPart}
-use Rattle.paxos_core_invariant.specs.Quorum.{Sizes, AreQuorums}
-use Rattle.paxos_core_invariant.specs.Settled.{Settled}
-use Rattle.paxos_core_invariant.specs.Step.{Label, Offers, Allowed, after}
+use Rattle.paxos_core_world.specs.Farm.{Farm, FarmLabel, Offering, Stepping, Offer, IsPass, IsInput, FarmAllowed, IsFarmRun, farm_after, farm_opening, farm_reached, reopened, KeepsOffers, put_room, Links}
+use Rattle.paxos_core_world.specs.KeptPart.{KeptPart}
+use Rattle.paxos_core_world.specs.Quorum.{Sizes, AreQuorums}
+use Rattle.paxos_core_world.specs.Settled.{Settled}
+use Rattle.paxos_core_world.specs.Step.{Label, Offers, Allowed, after}
 use Rattle.paxos_core_model.proofs.Chains.{HaveInvariant, offer_was, offer_fixed, input_new, learned_offered, farm_learned_stays, farm_keeps_run, links_one}
 use Rattle.paxos_core_invariant.proofs.Opens.{opens}
 use Rattle.paxos_core_model.proofs.Reopens.{IsPartOf, allowed_carries, part_carries, opening_part}

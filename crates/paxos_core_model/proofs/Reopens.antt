@@ -1,13 +1,13 @@
 -- A room that is opened again from the kept parts that a run left goes on as that run would, with its other messages unused.
 use Rattle.std.proofs.Common.{◌≡◌, ℕ, ◌<◌, ◌≤◌, ◌⊎◌, List, [], ◌∷◌, ◌++◌, inl, inr, refl, sym, ap, subst, arith, false}
-use Rattle.paxos_core_invariant.specs.Ballot.{Owns}
-use Rattle.paxos_core_invariant.specs.KeptPart.{KeptPart, with_offer, with_start, with_promise, with_vote, vote}
-use Rattle.paxos_core_invariant.specs.Run.{reached, IsRun}
-use Rattle.paxos_core_invariant.specs.Quorum.{Sizes}
-use Rattle.paxos_core_invariant.specs.Step.{Label, Offers, Starts, Promises, Proposes, Accepts, Learns, Restarts, Allowed, after, HasOffered, IsSafeChoice}
-use Rattle.paxos_core_invariant.specs.World.{World, Has, put, opening}
-use Rattle.paxos_core_invariant.specs.Msg.{Msg}
-use Rattle.paxos_core_invariant.specs.Msg.TheVariants.{Promise, Propose}
+use Rattle.paxos_core_world.specs.Ballot.{Owns}
+use Rattle.paxos_core_world.specs.KeptPart.{KeptPart, with_offer, with_start, with_promise, with_vote, vote}
+use Rattle.paxos_core_world.specs.Run.{reached, IsRun}
+use Rattle.paxos_core_world.specs.Quorum.{Sizes}
+use Rattle.paxos_core_world.specs.Step.{Label, Offers, Starts, Promises, Proposes, Accepts, Learns, Restarts, Allowed, after, HasOffered, IsSafeChoice}
+use Rattle.paxos_core_world.specs.World.{World, Has, put, opening}
+use Rattle.paxos_core_world.specs.declared.msg.Msg.{Msg}
+use Rattle.paxos_core_world.specs.declared.msg.Msg.TheVariants.{Promise, Propose}
 use Rattle.paxos_core_invariant.specs.Invariant.{Invariant}
 use Rattle.paxos_core_invariant.proofs.Keeps.{keeps_run}
 use Rattle.paxos_core_invariant.proofs.Moves.{message_stays, learned_stays, proposal_was, begun_was}

@@ -1,19 +1,19 @@
 -- Agreement: from settled kept parts, whatever a run chooses or learns is one value, and what it leaves is settled.
 use Rattle.std.proofs.Common.{◌≡◌, ℕ, ◌<◌, Bool, true, false, not, List, Option, Some, None, inl, inr, refl, sym, subst, arith, eqb, eqb-true, nat_lt, lt-ltb}
 use Rattle.std.proofs.lemmas.Bool.{cases_eq, cases_order, and_from, and_parts}
-use Rattle.paxos_core_invariant.specs.KeptPart.{KeptPart}
-use Rattle.paxos_core_invariant.specs.Quorum.{Sizes, AreQuorums, IsPromiseQuorum}
-use Rattle.paxos_core_invariant.specs.Run.{reached}
-use Rattle.paxos_core_invariant.specs.Settled.{Settled, BallotsSettled, PairSettled, has_passed, is_given}
-use Rattle.paxos_core_invariant.specs.Step.{Label, IsChosen}
-use Rattle.paxos_core_invariant.specs.World.{World, Has, opening}
-use Rattle.paxos_core_invariant.specs.Msg.TheVariants.{Accepted}
-use Rattle.paxos_core_invariant.specs.Vote.{Vote}
+use Rattle.paxos_core_world.specs.KeptPart.{KeptPart}
+use Rattle.paxos_core_world.specs.Quorum.{Sizes, AreQuorums, IsPromiseQuorum}
+use Rattle.paxos_core_world.specs.Run.{reached}
+use Rattle.paxos_core_world.specs.Settled.{Settled, BallotsSettled, PairSettled, has_passed, is_given}
+use Rattle.paxos_core_world.specs.Step.{Label, IsChosen}
+use Rattle.paxos_core_world.specs.World.{World, Has, opening}
+use Rattle.paxos_core_world.specs.declared.msg.Msg.TheVariants.{Accepted}
+use Rattle.paxos_core_world.specs.declared.vote.Vote.{Vote}
 use Rattle.paxos_core_invariant.specs.Invariant.{Invariant, Backed, IsPassed}
 use Rattle.paxos_core_invariant.proofs.Keeps.{keeps_run}
 use Rattle.paxos_core_invariant.proofs.Opens.{opens}
 use Rattle.paxos_core_invariant.proofs.Quorums.{meet}
-use Rattle.paxos_core_invariant.proofs.PaxosCoreWorldQuorums.{member_of, promise_quorum_grows}
+use Rattle.paxos_core_world.proofs.Quorums.{member_of, promise_quorum_grows}
 use Rattle.paxos_core_model.specs.Agreement.{IsSettledRun, ChoosesOne, LearnsOne, NothingIsSettled, RunsChooseOne, RunsLearnOne, RunsStaySettled}
 
 -- every world of a run from settled kept parts has the invariant

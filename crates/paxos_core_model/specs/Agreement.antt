@@ -1,12 +1,12 @@
 -- Agreement in one room (Lamport, Paxos Made Simple, section 2: only a single value is chosen), over every run from settled kept parts,
 -- and over every reopening of a room from what a run left.
 use Rattle.std.specs.Prelude.{◌≡◌, ℕ, List, ◌++◌}
-use Rattle.paxos_core_invariant.specs.KeptPart.{KeptPart}
-use Rattle.paxos_core_invariant.specs.Quorum.{Sizes, AreQuorums}
-use Rattle.paxos_core_invariant.specs.Run.{IsRun, reached}
-use Rattle.paxos_core_invariant.specs.Settled.{Settled}
-use Rattle.paxos_core_invariant.specs.Step.{Label, IsChosen}
-use Rattle.paxos_core_invariant.specs.World.{World, Has, opening, no_nodes}
+use Rattle.paxos_core_world.specs.KeptPart.{KeptPart}
+use Rattle.paxos_core_world.specs.Quorum.{Sizes, AreQuorums}
+use Rattle.paxos_core_world.specs.Run.{IsRun, reached}
+use Rattle.paxos_core_world.specs.Settled.{Settled}
+use Rattle.paxos_core_world.specs.Step.{Label, IsChosen}
+use Rattle.paxos_core_world.specs.World.{World, Has, opening, no_nodes}
 
 -- the world to which these steps lead n nodes that open with these kept parts
 abbrev pub world_of : ℕ → (ℕ → KeptPart) → List Label → World

@@ -1,13 +1,3 @@
 pub mod Agreement
 pub mod OneCode
 pub mod Tests
-pub use Rattle.paxos_core_invariant.specs.Invariant
-pub use Rattle.paxos_core_invariant.specs.Ballot
-pub use Rattle.paxos_core_invariant.specs.KeptPart
-pub use Rattle.paxos_core_invariant.specs.Quorum
-pub use Rattle.paxos_core_invariant.specs.Run
-pub use Rattle.paxos_core_invariant.specs.Step
-pub use Rattle.paxos_core_invariant.specs.World
-pub use Rattle.paxos_core_invariant.specs.Msg
-pub use Rattle.paxos_core_invariant.specs.Vote
-pub use Rattle.paxos_core_invariant.specs.Settled

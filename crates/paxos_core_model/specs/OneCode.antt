@@ -1,9 +1,9 @@
 -- Agreement in the farm: one code for each function that is linked, offers that chain from pass to pass, and the same after a reopening.
 use Rattle.std.specs.Prelude.{◌≡◌, ℕ, List, ◌++◌}
-use Rattle.paxos_core_invariant.specs.Farm.{Farm, FarmLabel, Offer, IsPass, IsFarmRun, IsChained, KeepsOffers, Links, empty_farm, farm_opening, farm_reached, reopened}
-use Rattle.paxos_core_invariant.specs.KeptPart.{KeptPart}
-use Rattle.paxos_core_invariant.specs.Quorum.{Sizes, AreQuorums}
-use Rattle.paxos_core_invariant.specs.Settled.{Settled}
+use Rattle.paxos_core_world.specs.Farm.{Farm, FarmLabel, Offer, IsPass, IsFarmRun, IsChained, KeepsOffers, Links, empty_farm, farm_opening, farm_reached, reopened}
+use Rattle.paxos_core_world.specs.KeptPart.{KeptPart}
+use Rattle.paxos_core_world.specs.Quorum.{Sizes, AreQuorums}
+use Rattle.paxos_core_world.specs.Settled.{Settled}
 
 -- with quorums that meet the steps are a run of a farm that opens with settled rooms, whatever their offers are
 pub record IsSettledFarmRun (q : Sizes) (rtl : ℕ → List ℕ) (nodes : ℕ → ℕ → ℕ → KeptPart) (offers : ℕ → ℕ → ℕ → Offer) (steps : List FarmLabel) : Type 0 where

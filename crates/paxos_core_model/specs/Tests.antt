@@ -1,10 +1,10 @@
 -- The parts of the test of settled kept parts, one for each of its functions.
 use Rattle.std.specs.Prelude.{ℕ, ◌<◌, ◌≤◌, IfSome}
-use Rattle.paxos_core_invariant.specs.KeptPart.{KeptPart, IsWithinPromise}
-use Rattle.paxos_core_invariant.specs.Quorum.{Sizes}
-use Rattle.paxos_core_invariant.specs.Settled.{BallotsSettled, VoteSettled, PairSettled}
-use Rattle.paxos_core_invariant.specs.Vote.{Vote}
-use Rattle.paxos_core_invariant.specs.Ballot.{Owns}
+use Rattle.paxos_core_world.specs.KeptPart.{KeptPart, IsWithinPromise}
+use Rattle.paxos_core_world.specs.Quorum.{Sizes}
+use Rattle.paxos_core_world.specs.Settled.{BallotsSettled, VoteSettled, PairSettled}
+use Rattle.paxos_core_world.specs.declared.vote.Vote.{Vote}
+use Rattle.paxos_core_world.specs.Ballot.{Owns}
 
 -- no ballot that the part promised or voted under is one of node i's own above the started one
 pub record IsCovered (n i started : ℕ) (k : KeptPart) : Type 0 where

@@ -6,4 +6,3 @@
 pub mod promises;
 pub mod settled;
 
-pub use paxos_core_invariant::{ballot, kept, msg, quorum, vote};

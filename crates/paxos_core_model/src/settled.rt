@@ -1,14 +1,14 @@
 ghost use Rattle.std.specs.Prelude.{◌≡◌, ◌<◌, ◌≤◌, ◌↔◌, IfSome, IsTrue, length};
-ghost use Rattle.paxos_core_invariant.specs.Ballot.{Owns};
-ghost use Rattle.paxos_core_invariant.specs.Quorum.{count_below};
-ghost use Rattle.paxos_core_invariant.specs.Settled.{has_passed, has_promised, BallotsSettled, IsStarted, PairSettled, Settled};
-ghost use Rattle.paxos_core_invariant.specs.World.{nodes_of};
+ghost use Rattle.paxos_core_world.specs.Ballot.{Owns};
+ghost use Rattle.paxos_core_world.specs.Quorum.{count_below};
+ghost use Rattle.paxos_core_world.specs.Settled.{has_passed, has_promised, BallotsSettled, IsStarted, PairSettled, Settled};
+ghost use Rattle.paxos_core_world.specs.World.{nodes_of};
 ghost use Rattle.paxos_core_model.specs.Tests.{IsCovered, NodeSettled, VoteStands};
 
-use paxos_core_invariant::ballot::owns;
-use paxos_core_invariant::kept::Kept;
-use paxos_core_invariant::quorum::{Quorums, is_promise_quorum};
-use paxos_core_invariant::vote::Vote;
+use paxos_core_world::ballot::owns;
+use paxos_core_world::kept::Kept;
+use paxos_core_world::{quorum::Quorums, quorum::is_promise_quorum};
+use paxos_core_world::vote::Vote;
 
 /// Whether a room can be opened with these kept parts and quorums: true exactly where they are
 /// settled. The parts stand in the order of their nodes.

@@ -10,7 +10,9 @@ use crate::seat::Seat;
 use lang_base::Pass;
 use offers::Offer;
 use rooms_cells::{Put, Shelf, Sights};
-use rooms_seat::{Dealer, Kept, Quorums, settled};
+use rooms_seat::Dealer;
+use paxos_core_world::{kept::Kept, quorum::Quorums};
+use paxos_core_model::settled::settled;
 use std::alloc::Global;
 use std::sync::Arc;
 

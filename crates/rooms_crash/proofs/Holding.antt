@@ -16,11 +16,11 @@ use Rattle.paxos_core_law.specs.declared.step.Step.TheVariants as step
 use Rattle.paxos_core_late_offers.specs.LateOffer.{BelongsWithLateOffer}
 use Rattle.paxos_core_crash.specs.Crash.{IsRecorded, Nothing, ToOffer, ToDo}
 use Rattle.paxos_core_crash.proofs.JournalLemmas.{journals_are_recorded}
-use Rattle.rooms_met.specs.RoomsStateAct.{Act}
-use Rattle.rooms_met.specs.RoomsStateAct.TheVariants as act
-use Rattle.rooms_met.specs.SeatState.{SeatState, proposer_of, seen_world, vote_by}
-use Rattle.rooms_met.specs.Would.{would, IsAmong}
-use Rattle.rooms_met.proofs.RunLemmas.{legal_reached}
+use Rattle.rooms_state.specs.declared.act.Act.{Act}
+use Rattle.rooms_state.specs.declared.act.Act.TheVariants as act
+use Rattle.rooms_state.specs.SeatState.{SeatState, proposer_of, seen_world, vote_by}
+use Rattle.rooms_state.specs.Would.{would, IsAmong}
+use Rattle.rooms_rule.proofs.RunLemmas.{legal_reached}
 use Rattle.rooms_crash.specs.Held.{HeldIsRecorded, MayHold}
 use Rattle.rooms_crash.specs.OfRun.{StandsInRun}
 

@@ -4,11 +4,11 @@ use Rattle.std.proofs.lemmas.Bool.{cases_eq}
 use Rattle.paxos_core_world.specs.Quorum.{Sizes}
 use Rattle.paxos_core_world.specs.World.{Has}
 use Rattle.paxos_core_law.specs.NodeState.{NodeState}
-use Rattle.rooms_met.specs.Event.{Event}
-use Rattle.rooms_met.specs.Events.{labels_of}
-use Rattle.rooms_met.specs.SeatState.{SeatState}
-use Rattle.rooms_met.specs.Views.{BeginsWith, IsLegal}
-use Rattle.rooms_met.proofs.RunLemmas.{begins_through}
+use Rattle.rooms_rule.specs.declared.event.Event.{Event}
+use Rattle.rooms_rule.specs.Events.{labels_of}
+use Rattle.rooms_state.specs.SeatState.{SeatState}
+use Rattle.rooms_rule.specs.Views.{BeginsWith, IsLegal}
+use Rattle.rooms_rule.proofs.RunLemmas.{begins_through}
 use Rattle.rooms_met.specs.Met.{HaveMet}
 use Rattle.rooms_crash.specs.Meetings.{AllMeet, IsSeatOf, Meetings, Meets, MeetsIn, MeetingsJoin}
 use Rattle.rooms_crash.specs.Rest.{Rests, Spare}

@@ -17,30 +17,30 @@ use Rattle.paxos_core_law.specs.declared.step.Act.{Act as CoreAct}
 use Rattle.paxos_core_law.specs.declared.step.Act.TheVariants as core_act
 use Rattle.paxos_core_law.specs.declared.step.Step.{Step}
 use Rattle.paxos_core_law.specs.declared.step.Step.TheVariants as step
-use Rattle.rooms_met.specs.Sight.{ProposerSeen}
-use Rattle.rooms_met.specs.WordsOf.{proposed_by}
-use Rattle.rooms_met.proofs.OfferLemmas.{hearing_offered, message_offered, proposed_offered}
-use Rattle.rooms_met.proofs.Stays.{proposer_seen}
-use Rattle.rooms_met.specs.AcceptorWord.{AcceptorWord}
-use Rattle.rooms_met.specs.Did.{Did, Forgotten, LookedAtAcceptor, LookedAtProposer}
-use Rattle.rooms_met.specs.Event.{Event}
-use Rattle.rooms_met.specs.Heard.{after_hearing, taken_by_hearing}
-use Rattle.rooms_met.specs.Opening.{Opening}
-use Rattle.rooms_met.specs.ProposerWord.{ProposerWord}
-use Rattle.rooms_met.specs.SeatState.{CanOpen, SeatState, no_proposer, opened_seat, seen_world}
-use Rattle.rooms_met.specs.Steps.{Advances, Forgot}
-use Rattle.rooms_met.specs.View.{View}
-use Rattle.rooms_met.specs.Views.{world_after}
-use Rattle.rooms_met.specs.Would.{would, act_of, proposed_by_step, Acted}
-use Rattle.rooms_met.specs.RoomsStateAct.{Act}
-use Rattle.rooms_met.specs.RoomsStateAct.TheVariants as act
-use Rattle.rooms_met.proofs.HearLemmas.{me_hearing}
-use Rattle.rooms_met.proofs.Moves.{kept_hearing, proposer_stays_seen}
-use Rattle.rooms_met.proofs.Opened.{opened_sound}
-use Rattle.rooms_met.proofs.RunLemmas.{legal_reached}
-use Rattle.rooms_met.proofs.Told.{notes_of}
+use Rattle.rooms_rule.specs.Sight.{ProposerSeen}
+use Rattle.rooms_rule.specs.WordsOf.{proposed_by}
+use Rattle.rooms_steps.proofs.OfferLemmas.{hearing_offered, message_offered, proposed_offered}
+use Rattle.rooms_steps.proofs.Stays.{proposer_seen}
+use Rattle.rooms_rule.specs.declared.acceptor.AcceptorWord.{AcceptorWord}
+use Rattle.rooms_state.specs.Did.{Did, Forgotten, LookedAtAcceptor, LookedAtProposer}
+use Rattle.rooms_rule.specs.declared.event.Event.{Event}
+use Rattle.rooms_rule.specs.Heard.{after_hearing, taken_by_hearing}
+use Rattle.rooms_rule.specs.declared.view.Opening.{Opening}
+use Rattle.rooms_rule.specs.declared.proposer.ProposerWord.{ProposerWord}
+use Rattle.rooms_state.specs.SeatState.{CanOpen, SeatState, no_proposer, opened_seat, seen_world}
+use Rattle.rooms_rule.specs.Steps.{Advances, Forgot}
+use Rattle.rooms_rule.specs.declared.view.View.{View}
+use Rattle.rooms_rule.specs.Views.{world_after}
+use Rattle.rooms_state.specs.Would.{would, act_of, proposed_by_step, Acted}
+use Rattle.rooms_state.specs.declared.act.Act.{Act}
+use Rattle.rooms_state.specs.declared.act.Act.TheVariants as act
+use Rattle.rooms_steps.proofs.HearLemmas.{me_hearing}
+use Rattle.rooms_state.proofs.Moves.{kept_hearing, proposer_stays_seen}
+use Rattle.rooms_state.proofs.Opened.{opened_sound}
+use Rattle.rooms_rule.proofs.RunLemmas.{legal_reached}
+use Rattle.rooms_state.proofs.Told.{notes_of}
 use Rattle.rooms_met.specs.Met.{told_by, HaveMet, IsKnown, LookedAtBoth, LookedAtFirst}
-use Rattle.rooms_met.specs.RoomAt.{HasWords, RoomAt}
+use Rattle.rooms_table.specs.RoomAt.{HasWords, RoomAt}
 use Rattle.rooms_crash.specs.Calls.{CallsKeepRun, HasOfferedFor}
 use Rattle.rooms_crash.specs.OfRun.{GoesOn, IsOfRun, StandsInRun}
 use Rattle.rooms_crash.proofs.Offering.{LeaveOffer, act_leaves, hearing_leaves, restart_leaves, stood_before}

@@ -7,16 +7,16 @@ use Rattle.paxos_core_world.specs.declared.vote.Vote.{Vote}
 use Rattle.paxos_core_law.specs.Learner.{after_promise}
 use Rattle.paxos_core_law.specs.NodeState.{NodeState}
 use Rattle.paxos_core_law.specs.Taken.{learns_from}
-use Rattle.rooms_met.specs.Event.{Event}
-use Rattle.rooms_met.specs.Events.{labels_of, events_of}
-use Rattle.rooms_met.specs.Heard.{after_hearing, taken_by_hearing, taken_on_vote}
-use Rattle.rooms_met.specs.Opening.{Opening}
-use Rattle.rooms_met.specs.SeatState.{SeatState}
-use Rattle.rooms_met.specs.Steps.{Advances}
-use Rattle.rooms_met.specs.View.{View}
-use Rattle.rooms_met.specs.Views.{AreStepsOfOthers, BeginsWith, IsLegal}
-use Rattle.rooms_met.proofs.HearLemmas.{me_hearing}
-use Rattle.rooms_met.proofs.RunLemmas.{labels_of-append, labels_of-events}
+use Rattle.rooms_rule.specs.declared.event.Event.{Event}
+use Rattle.rooms_rule.specs.Events.{labels_of, events_of}
+use Rattle.rooms_rule.specs.Heard.{after_hearing, taken_by_hearing, taken_on_vote}
+use Rattle.rooms_rule.specs.declared.view.Opening.{Opening}
+use Rattle.rooms_state.specs.SeatState.{SeatState}
+use Rattle.rooms_rule.specs.Steps.{Advances}
+use Rattle.rooms_rule.specs.declared.view.View.{View}
+use Rattle.rooms_rule.specs.Views.{AreStepsOfOthers, BeginsWith, IsLegal}
+use Rattle.rooms_steps.proofs.HearLemmas.{me_hearing}
+use Rattle.rooms_rule.proofs.RunLemmas.{labels_of-append, labels_of-events}
 use Rattle.rooms_met.specs.Met.{told_by, HaveMet, LookedAtBoth, LookedAtFirst}
 use Rattle.rooms_crash.specs.Rest.{Spare}
 

@@ -13,12 +13,12 @@ use Rattle.paxos_core_law.specs.Proposer.{next_ballot}
 use Rattle.paxos_core_law.specs.Taken.{learns_from, taken_by_restart}
 use Rattle.paxos_core_law.specs.declared.step.Act.{Act}
 use Rattle.paxos_core_law.specs.declared.step.Act.TheVariants as act
-use Rattle.rooms_met.specs.Events.{labels_of}
-use Rattle.rooms_met.specs.Heard.{taken_by_hearing, taken_on_vote}
-use Rattle.rooms_met.specs.Steps.{Advances, AreTakenBy}
-use Rattle.rooms_met.specs.View.{View}
-use Rattle.rooms_met.specs.Views.{AreStepsOfOthers, IsStepOfOther, world_after}
-use Rattle.rooms_met.proofs.RunLemmas.{world_after-append, world_after-events}
+use Rattle.rooms_rule.specs.Events.{labels_of}
+use Rattle.rooms_rule.specs.Heard.{taken_by_hearing, taken_on_vote}
+use Rattle.rooms_rule.specs.Steps.{Advances, AreTakenBy}
+use Rattle.rooms_rule.specs.declared.view.View.{View}
+use Rattle.rooms_rule.specs.Views.{AreStepsOfOthers, IsStepOfOther, world_after}
+use Rattle.rooms_rule.proofs.RunLemmas.{world_after-append, world_after-events}
 
 -- with this step node i does not offer
 abbrev pub LeavesOffer : ℕ → Label → Type 0

@@ -10,12 +10,12 @@ use Rattle.paxos_core_law.specs.Reached.{IsReached}
 use Rattle.paxos_core_crash.specs.Crash.{IsRecorded}
 use Rattle.paxos_core_crash.proofs.CrashLemmas.{crashes_learn_as_before}
 use Rattle.paxos_core_crash.proofs.OthersLemmas.{IsAheadBut, ahead_of_none, others_steps, run_ahead}
-use Rattle.rooms_met.specs.Event.{Event}
-use Rattle.rooms_met.specs.Events.{labels_of}
-use Rattle.rooms_met.specs.Opening.{Opening}
-use Rattle.rooms_met.specs.SeatState.{SeatState, seen_world}
-use Rattle.rooms_met.specs.Views.{IsLegal, IsStepOfOther, world_after}
-use Rattle.rooms_met.proofs.RunLemmas.{legal_reached, world_after-append}
+use Rattle.rooms_rule.specs.declared.event.Event.{Event}
+use Rattle.rooms_rule.specs.Events.{labels_of}
+use Rattle.rooms_rule.specs.declared.view.Opening.{Opening}
+use Rattle.rooms_state.specs.SeatState.{SeatState, seen_world}
+use Rattle.rooms_rule.specs.Views.{IsLegal, IsStepOfOther, world_after}
+use Rattle.rooms_rule.proofs.RunLemmas.{legal_reached, world_after-append}
 use Rattle.rooms_crash.proofs.Holding.{held_is_recorded}
 use Rattle.rooms_crash.proofs.Keeping.{opened_of_run}
 use Rattle.rooms_crash.specs.Rest.{IsNote, LearnsAgain, OpenedRest, RestLeaves, Rests, Spare}

@@ -2,9 +2,9 @@
 use Rattle.std.specs.Prelude.{◌≡◌, ℕ, ◌<◌, true, Some, IsTrue}
 use Rattle.paxos_core_law.specs.NodeState.{offered}
 use Rattle.paxos_core_late_offers.specs.LateOffer.{BelongsWithLateOffer}
-use Rattle.rooms_met.specs.Sight.{ProposerSeen}
-use Rattle.rooms_met.specs.SeatState.{SeatState, proposer_of, seen_world}
-use Rattle.rooms_met.specs.Views.{IsLegal}
+use Rattle.rooms_rule.specs.Sight.{ProposerSeen}
+use Rattle.rooms_state.specs.SeatState.{SeatState, proposer_of, seen_world}
+use Rattle.rooms_rule.specs.Views.{IsLegal}
 
 -- An offer of the node that stands in the world that its seat has seen was made. The run has it at the latest with the step that proposes it,
 -- so the offer may be made, and not stand there yet.

@@ -5,4 +5,3 @@
 mod law;
 
 pub use law::{seats_at_rest, seats_of_runs, seats_that_met};
-pub use rooms_met::Step;

@@ -5,15 +5,17 @@ ghost use Rattle.std.specs.Prelude.{◌≡◌, ℕ, ◌<◌, ◌≤◌, ◌↔�
 ghost use Rattle.std.specs.Option.{option_map};
 ghost use Rattle.paxos_core_law.specs.declared.step.Step.TheVariants as step;
 ghost use Rattle.paxos_core_world.specs.declared.vote.Vote.{Vote};
-ghost use Rattle.rooms.specs.Did.{Forgotten, LookedAtAcceptor, LookedAtProposer};
-ghost use Rattle.rooms.specs.Would.{would, Acted, IsAmong};
-ghost use Rattle.rooms.specs.Act.TheVariants as act;
+ghost use Rattle.rooms_state.specs.Did.{Forgotten, LookedAtAcceptor, LookedAtProposer};
+ghost use Rattle.rooms_state.specs.Would.{would, Acted, IsAmong};
+ghost use Rattle.rooms_state.specs.declared.act.Act.TheVariants as act;
 ghost use Rattle.rooms_function.specs.Pass.{words_in, HasLearned, IsOnlyIn};
 
 use crate::seat::FunctionSeat;
 use crate::words::{accept, forget, promise, propose, start};
-use paxos_core::{CoreError, Kept, Step, Vote};
-use rooms::Act;
+use paxos_core::CoreError;
+use paxos_core_world::{kept::Kept, vote::Vote};
+use paxos_core_law::step::Step;
+use rooms_state::act::Act;
 use rooms_rule::acceptor::AcceptorWord;
 use rooms_rule::proposer::ProposerWord;
 

@@ -9,10 +9,6 @@ mod opening;
 mod seat;
 mod words;
 
-pub use alloc_check::{Alloc, EquationLists as PlaceLists};
-pub use constprop_check::{ConstProp, FactLists};
-pub use cse_check::{Cse, EquationLists};
-pub use linearize_check::{Linearize, Order};
 pub use meeting::{FunctionMeeting, meet};
 pub use offered::{ChainOffer, SeenOffer};
 pub use opening::{FunctionOffers, FunctionRoom, Unopened};

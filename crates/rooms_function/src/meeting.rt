@@ -1,7 +1,7 @@
 ghost use Rattle.rooms_function.specs.Met.{IsOneFunction, Met};
 
 use crate::seat::FunctionSeat;
-use rooms::Meeting;
+use rooms_seat::Meeting;
 
 /// What two seats of one function have learned, pass by pass.
 #[derive(Clone, Copy, Debug, PartialEq, Eq)]

@@ -10,7 +10,7 @@ use constprop_check::ConstProp;
 use cse_check::Cse;
 use linearize_check::Linearize;
 use offers::Offer;
-use rooms::Put;
+use rooms_cells::Put;
 use std::alloc::Global;
 use std::sync::Arc;
 

@@ -5,14 +5,14 @@ use Rattle.std.proofs.lemmas.List.{set_comm}
 use Rattle.paxos_core_world.specs.Quorum.{is_accept_quorum, IsAcceptQuorum}
 use Rattle.paxos_core_world.specs.declared.vote.Vote.{Vote}
 use Rattle.paxos_core_world.proofs.Quorums.{accept_quorum_grows}
-use Rattle.rooms_rights.specs.Acceptor.{accepts, after_prepare, after_propose, is_vote, promises}
-use Rattle.rooms_rights.specs.AcceptorWord.{AcceptorWord}
-use Rattle.rooms_rights.specs.Learner.{after_promise, after_vote, is_at_most, is_report, is_under_way, learned_with, notes_promise, notes_vote, voted}
-use Rattle.rooms_rights.specs.NodeState.{NodeState, offered}
-use Rattle.rooms_rights.specs.Notes.{note_of, has_voted}
-use Rattle.rooms_rights.specs.Proposer.{after_answer, after_proposal, next_proposal, propose_message}
-use Rattle.rooms_rights.proofs.LearnsLemmas.{learned_again, voted_before}
-use Rattle.rooms_state.specs.Heard.{after_hearing, after_shown_vote}
+use Rattle.paxos_core_law.specs.Acceptor.{accepts, after_prepare, after_propose, is_vote, promises}
+use Rattle.rooms_rule.specs.declared.acceptor.AcceptorWord.{AcceptorWord}
+use Rattle.paxos_core_law.specs.Learner.{after_promise, after_vote, is_at_most, is_report, is_under_way, learned_with, notes_promise, notes_vote, voted}
+use Rattle.paxos_core_law.specs.NodeState.{NodeState, offered}
+use Rattle.paxos_core_law.specs.Notes.{note_of, has_voted}
+use Rattle.paxos_core_law.specs.Proposer.{after_answer, after_proposal, next_proposal, propose_message}
+use Rattle.paxos_core.proofs.LearnsLemmas.{learned_again, voted_before}
+use Rattle.rooms_rule.specs.Heard.{after_hearing, after_shown_vote}
 use Rattle.rooms_met.specs.Seen.{heard_with, IsHeard}
 
 -- to hear such a word changes nothing

@@ -3,10 +3,3 @@ pub mod Looked
 pub mod Meetings
 pub mod Sweeps
 pub mod Openings
-pub use Rattle.rooms_state.proofs.HearLemmas
-pub use Rattle.rooms_state.proofs.Moves
-pub use Rattle.rooms_state.proofs.Opened
-pub use Rattle.rooms_state.proofs.RunLemmas
-pub use Rattle.rooms_state.proofs.Told
-pub use Rattle.rooms_rights.proofs.OfferLemmas
-pub use Rattle.rooms_rights.proofs.Stays

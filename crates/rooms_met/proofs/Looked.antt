@@ -6,23 +6,23 @@ use Rattle.paxos_core_world.specs.Quorum.{Sizes}
 use Rattle.paxos_core_world.specs.Step.{Label}
 use Rattle.paxos_core_world.specs.World.{World}
 use Rattle.paxos_core_world.specs.declared.vote.Vote.{Vote}
-use Rattle.rooms_rights.specs.Learner.{after_promise, notes_promise, notes_vote}
-use Rattle.rooms_rights.specs.NodeState.{NodeState}
-use Rattle.rooms_state.specs.AcceptorWord.{AcceptorWord}
-use Rattle.rooms_state.specs.ProposerWord.{ProposerWord}
-use Rattle.rooms_state.specs.Event.{Event}
-use Rattle.rooms_state.specs.Opening.{Opening}
-use Rattle.rooms_state.specs.View.{View}
-use Rattle.rooms_state.specs.Events.{labels_of, events_of}
-use Rattle.rooms_state.specs.Heard.{after_shown_vote, after_hearing}
-use Rattle.rooms_state.specs.Steps.{Advances}
-use Rattle.rooms_state.specs.Views.{world_after, BeginsWith, IsLegal}
-use Rattle.rooms_state.proofs.HearLemmas.{me_hearing}
-use Rattle.rooms_state.proofs.RunLemmas.{world_after-append, begins_through, legal_reached, run_behind}
-use Rattle.rooms_rights.specs.NotBelow.{AcceptorNotBelow, ProposerNotBelow}
-use Rattle.rooms_rights.specs.Sight.{AcceptorSeen, ProposerSeen}
-use Rattle.rooms_rights.specs.WordsOf.{proposed_by}
-use Rattle.rooms_rights.proofs.Stays.{acceptor_seen_later, proposer_seen_later}
+use Rattle.paxos_core_law.specs.Learner.{after_promise, notes_promise, notes_vote}
+use Rattle.paxos_core_law.specs.NodeState.{NodeState}
+use Rattle.rooms_rule.specs.declared.acceptor.AcceptorWord.{AcceptorWord}
+use Rattle.rooms_rule.specs.declared.proposer.ProposerWord.{ProposerWord}
+use Rattle.rooms_rule.specs.declared.event.Event.{Event}
+use Rattle.rooms_rule.specs.declared.view.Opening.{Opening}
+use Rattle.rooms_rule.specs.declared.view.View.{View}
+use Rattle.rooms_rule.specs.Events.{labels_of, events_of}
+use Rattle.rooms_rule.specs.Heard.{after_shown_vote, after_hearing}
+use Rattle.rooms_rule.specs.Steps.{Advances}
+use Rattle.rooms_rule.specs.Views.{world_after, BeginsWith, IsLegal}
+use Rattle.rooms_steps.proofs.HearLemmas.{me_hearing}
+use Rattle.rooms_rule.proofs.RunLemmas.{world_after-append, begins_through, legal_reached, run_behind}
+use Rattle.rooms_rule.specs.NotBelow.{AcceptorNotBelow, ProposerNotBelow}
+use Rattle.rooms_rule.specs.Sight.{AcceptorSeen, ProposerSeen}
+use Rattle.rooms_rule.specs.WordsOf.{proposed_by}
+use Rattle.rooms_steps.proofs.Stays.{acceptor_seen_later, proposer_seen_later}
 use Rattle.paxos_core_world.specs.Run.{reached}
 use Rattle.rooms_state.specs.Did.{LookedAtAcceptor, LookedAtProposer}
 use Rattle.rooms_met.specs.Met.{HasSeenNoLess, LookedAtAll, LookedAtBoth, LookedAtFirst, LookedOn}

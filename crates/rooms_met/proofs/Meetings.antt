@@ -2,15 +2,15 @@
 use Rattle.std.proofs.Common.{◌≡◌, ℕ, List, Some, refl, sym, ap, ◌∙◌, subst}
 use Rattle.paxos_core_world.specs.Quorum.{AreQuorums}
 use Rattle.paxos_core_world.specs.World.{World, Has, nodes_of}
-use Rattle.rooms_state.proofs.Theorem.{runs_learn_one}
-use Rattle.rooms_rights.proofs.WorldLemmas.{grows_by}
-use Rattle.rooms_state.specs.Event.{Event}
-use Rattle.rooms_state.specs.Opening.{Opening}
-use Rattle.rooms_state.specs.View.{View}
-use Rattle.rooms_state.specs.Deal.{informed}
-use Rattle.rooms_state.specs.Events.{labels_of}
-use Rattle.rooms_state.specs.Views.{world_after}
-use Rattle.rooms_state.proofs.RunLemmas.{world_after-append, begins_through}
+use Rattle.paxos_core_model.proofs.Theorem.{runs_learn_one}
+use Rattle.paxos_core_law.proofs.WorldLemmas.{grows_by}
+use Rattle.rooms_rule.specs.declared.event.Event.{Event}
+use Rattle.rooms_rule.specs.declared.view.Opening.{Opening}
+use Rattle.rooms_rule.specs.declared.view.View.{View}
+use Rattle.rooms_rule.specs.Deal.{informed}
+use Rattle.rooms_rule.specs.Events.{labels_of}
+use Rattle.rooms_rule.specs.Views.{world_after}
+use Rattle.rooms_rule.proofs.RunLemmas.{world_after-append, begins_through}
 use Rattle.rooms_met.specs.Met.{told_by, HaveMet, IsKnown, LookedAtAll, LookedOn, Remains}
 use Rattle.rooms_met.proofs.Looked.{on_first, seen_no_less}
 use Rattle.rooms_met.proofs.Openings.{some_node}

@@ -4,14 +4,14 @@ use Rattle.paxos_core_world.specs.Quorum.{AreQuorums, Sizes}
 use Rattle.paxos_core_world.specs.Settled.{Settled}
 use Rattle.paxos_core_world.specs.World.{nodes_of}
 use Rattle.rooms_rights.specs.Rights.{Held, MayDeal}
-use Rattle.rooms_state.specs.Deal.{dealing}
-use Rattle.rooms_state.specs.Opening.{Opening}
-use Rattle.rooms_state.specs.View.{View}
-use Rattle.rooms_rights.specs.RoomAt.{HasWords}
+use Rattle.rooms_rule.specs.Deal.{dealing}
+use Rattle.rooms_rule.specs.declared.view.Opening.{Opening}
+use Rattle.rooms_rule.specs.declared.view.View.{View}
+use Rattle.rooms_table.specs.RoomAt.{HasWords}
 use Rattle.rooms_state.specs.SeatState.{CanOpen}
-use Rattle.rooms_rights.specs.Family.{opening_in}
-use Rattle.rooms_rights.specs.Opened.{CanOpenAll}
-use Rattle.rooms_rights.specs.Openings.{Openings}
+use Rattle.rooms_table.specs.Family.{opening_in}
+use Rattle.rooms_table.specs.Opened.{CanOpenAll}
+use Rattle.rooms_table.specs.declared.view.Openings.{Openings}
 
 pub some_node : (q : Sizes) → AreQuorums q → 0 < q.nodes
 some_node q are = let least : 2 ≤ q.nodes = are.least in omega arith

@@ -2,16 +2,16 @@
 use Rattle.std.proofs.Common.{◌≡◌, ℕ, zero, suc, ◌<◌, ◌≤◌, ◌⊎◌, List, [], ◌∷◌, Option, length, map, set, get_or, get_or-set_other, get_or-set_same, refl, sym, ap, ◌∙◌, subst, inl, inr, arith}
 use native.Mathlib.Decide.{ℕ_discrete}
 use Rattle.std.proofs.lemmas.List.{length-map, map-set, set-get_or}
-use Rattle.rooms_rights.specs.NodeState.{NodeState}
-use Rattle.rooms_rights.specs.RoomAt.{RoomAt}
+use Rattle.paxos_core_law.specs.NodeState.{NodeState}
+use Rattle.rooms_table.specs.RoomAt.{RoomAt}
 use Rattle.rooms_rights.specs.declared.seen.SeenWords.{SeenWords}
 use Rattle.rooms_rights.specs.Sweep.{none_seen, seen_of, with_proposer, LookedAtNode, FoundChanged, FoundUnchanged}
-use Rattle.rooms_state.specs.AcceptorWord.{AcceptorWord}
-use Rattle.rooms_state.specs.ProposerWord.{ProposerWord}
-use Rattle.rooms_state.specs.View.{View}
-use Rattle.rooms_state.specs.Heard.{after_hearing}
-use Rattle.rooms_state.specs.Steps.{LooksAtAcceptor, LooksAtProposer}
-use Rattle.rooms_state.specs.Words.{accepted_in, promised_in, proposed_in, started_in}
+use Rattle.rooms_rule.specs.declared.acceptor.AcceptorWord.{AcceptorWord}
+use Rattle.rooms_rule.specs.declared.proposer.ProposerWord.{ProposerWord}
+use Rattle.rooms_rule.specs.declared.view.View.{View}
+use Rattle.rooms_rule.specs.Heard.{after_hearing}
+use Rattle.rooms_rule.specs.Steps.{LooksAtAcceptor, LooksAtProposer}
+use Rattle.rooms_rule.specs.Words.{accepted_in, promised_in, proposed_in, started_in}
 use Rattle.rooms_state.specs.Did.{LookedAtAcceptor, LookedAtProposer}
 use Rattle.rooms_state.specs.SeatState.{acceptor_of, SeatState, no_acceptor, no_proposer}
 use Rattle.rooms_state.specs.Sound.{IsSound}

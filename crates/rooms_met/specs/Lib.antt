@@ -1,23 +1,2 @@
 pub mod Met
 pub mod Seen
-pub use Rattle.rooms_rights.specs.AcceptorWord
-pub use Rattle.rooms_rights.specs.Act
-pub use Rattle.rooms_rights.specs.NodeState
-pub use Rattle.rooms_rights.specs.Opening
-pub use Rattle.rooms_rights.specs.Proposer
-pub use Rattle.rooms_rights.specs.ProposerWord
-pub use Rattle.rooms_rights.specs.RoomAt
-pub use Rattle.rooms_rights.specs.Sweep
-pub use Rattle.rooms_rights.specs.declared.seen.SeenWords
-pub use Rattle.rooms_state.specs.Did
-pub use Rattle.rooms_state.specs.Event
-pub use Rattle.rooms_state.specs.Events
-pub use Rattle.rooms_state.specs.Heard
-pub use Rattle.rooms_state.specs.SeatState
-pub use Rattle.rooms_state.specs.Steps
-pub use Rattle.rooms_state.specs.View
-pub use Rattle.rooms_state.specs.Views
-pub use Rattle.rooms_state.specs.Would
-pub use Rattle.rooms_state.specs.declared.act.Act as RoomsStateAct
-pub use Rattle.rooms_rights.specs.Sight
-pub use Rattle.rooms_rights.specs.WordsOf

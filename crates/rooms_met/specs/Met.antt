@@ -5,14 +5,14 @@ use Rattle.paxos_core_world.specs.KeptPart.{IsWithinPromise}
 use Rattle.paxos_core_world.specs.Quorum.{AreQuorums}
 use Rattle.paxos_core_world.specs.World.{Has}
 use Rattle.paxos_core_world.specs.declared.vote.Vote.{Vote}
-use Rattle.rooms_rights.specs.LateOffer.{BelongsWithLateOffer}
-use Rattle.rooms_rights.specs.Proposer.{next_proposal}
-use Rattle.rooms_state.specs.Views.{IsLegal, BeginsWith}
-use Rattle.rooms_rights.specs.AcceptorWord.{AcceptorWord}
-use Rattle.rooms_rights.specs.ProposerWord.{ProposerWord}
-use Rattle.rooms_state.specs.Deal.{informed}
+use Rattle.paxos_core_late_offers.specs.LateOffer.{BelongsWithLateOffer}
+use Rattle.paxos_core_law.specs.Proposer.{next_proposal}
+use Rattle.rooms_rule.specs.Views.{IsLegal, BeginsWith}
+use Rattle.rooms_rule.specs.declared.acceptor.AcceptorWord.{AcceptorWord}
+use Rattle.rooms_rule.specs.declared.proposer.ProposerWord.{ProposerWord}
+use Rattle.rooms_rule.specs.Deal.{informed}
 use Rattle.rooms_state.specs.Did.{LookedAtAcceptor, LookedAtProposer}
-use Rattle.rooms_rights.specs.NotBelow.{AcceptorNotBelow, ProposerNotBelow}
+use Rattle.rooms_rule.specs.NotBelow.{AcceptorNotBelow, ProposerNotBelow}
 use Rattle.rooms_state.specs.SeatState.{SeatState, seen_world, acceptor_of, proposer_of, vote_of}
 
 -- the run that the seat has seen is one of the protocol; its node belongs to the last world, but that its offer may not stand

@@ -1,15 +1,15 @@
 -- What a seat holds of the words of its room: the numbers that it saw last, and which of the words its node has heard.
 use Rattle.std.specs.Prelude.{◌≡◌, ℕ, ◌<◌, ◌+◌, ◌==◌, if◌then◌else◌, List, map, slice_set}
-use Rattle.rooms_rights.specs.Learner.{after_promise}
-use Rattle.rooms_rights.specs.NodeState.{NodeState}
+use Rattle.paxos_core_law.specs.Learner.{after_promise}
+use Rattle.paxos_core_law.specs.NodeState.{NodeState}
 use Rattle.rooms_rights.specs.declared.seen.SeenWords.{SeenWords}
 use Rattle.rooms_rights.specs.Sweep.{seen_of}
-use Rattle.rooms_state.specs.AcceptorWord.{AcceptorWord}
-use Rattle.rooms_state.specs.ProposerWord.{ProposerWord}
-use Rattle.rooms_state.specs.Heard.{after_shown_vote}
+use Rattle.rooms_rule.specs.declared.acceptor.AcceptorWord.{AcceptorWord}
+use Rattle.rooms_rule.specs.declared.proposer.ProposerWord.{ProposerWord}
+use Rattle.rooms_rule.specs.Heard.{after_shown_vote}
 use Rattle.rooms_state.specs.SeatState.{SeatState, acceptor_of}
 use Rattle.rooms_state.specs.Sound.{IsSound}
-use Rattle.rooms_state.specs.Words.{accepted_in, promised_in, proposed_in, started_in}
+use Rattle.rooms_rule.specs.Words.{accepted_in, promised_in, proposed_in, started_in}
 
 -- the words that the numbers stand for
 abbrev pub proposer_shown : SeenWords → ProposerWord

@@ -3,7 +3,3 @@
 //! seat stand.
 #![tactic(auto)]
 
-pub use rooms_rights::{
-    CoreError, Kept, Msg, Node, Quorums, Rights, SeenWords, Step, Vote, acceptor, open_four,
-    open_one, proposer, settled, view,
-};

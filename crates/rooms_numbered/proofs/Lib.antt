@@ -1,2 +1,1 @@
 pub mod Same
-pub use Rattle.rooms_function.proofs.Sent

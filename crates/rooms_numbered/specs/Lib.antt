@@ -1,11 +1,1 @@
 pub mod FunctionOf
-pub use Rattle.rooms_function.specs.Met
-pub use Rattle.rooms_function.specs.declared.meeting.FunctionMeeting
-pub use Rattle.rooms_function.specs.declared.seat.FunctionSeat
-pub use Rattle.rooms_function.specs.AllocPass
-pub use Rattle.rooms_function.specs.CsePass
-pub use Rattle.rooms_function.specs.ConstPropPass
-pub use Rattle.rooms_function.specs.Fact
-pub use Rattle.rooms_function.specs.Equation
-pub use Rattle.rooms_function.specs.LinearizePass
-pub use Rattle.rooms_function.specs.AllocCheckEquation

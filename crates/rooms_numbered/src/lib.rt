@@ -7,7 +7,4 @@ mod meeting;
 mod seat;
 
 pub use meeting::meet;
-pub use rooms_function::{
-    Alloc, ConstProp, Cse, EquationLists, FactLists, FunctionSeat, Linearize, Order, PlaceLists,
-};
 pub use seat::NumberedSeat;

@@ -4,14 +4,14 @@ use mathlib.Core.Option.{some}
 use lib.ListN.{get_elem?}
 use Rattle.atomic_table.specs.Table.{State, Me, Act, keeps, Valid, stepped, Allows, carried_after}
 use Rattle.atomic_table.proofs.Lists.{at_set}
-use Rattle.paxos_core.specs.Run.{reached}
-use Rattle.paxos_core.specs.Step.{Label}
-use Rattle.paxos_core.specs.World.{World}
-use Rattle.paxos_core.specs.Msg.{Msg}
-use Rattle.paxos_core.specs.NodeState.{NodeState}
-use Rattle.paxos_core.specs.Reached.{IsReached}
-use Rattle.paxos_core.specs.Takes.{AreStepsOf}
-use Rattle.paxos_core.specs.LateOffer.{BelongsWithLateOffer, TakesLate}
+use Rattle.paxos_core_world.specs.Run.{reached}
+use Rattle.paxos_core_world.specs.Step.{Label}
+use Rattle.paxos_core_world.specs.World.{World}
+use Rattle.paxos_core_world.specs.declared.msg.Msg.{Msg}
+use Rattle.paxos_core_law.specs.NodeState.{NodeState}
+use Rattle.paxos_core_law.specs.Reached.{IsReached}
+use Rattle.paxos_core_law.specs.Takes.{AreStepsOf}
+use Rattle.paxos_core_late_offers.specs.LateOffer.{BelongsWithLateOffer, TakesLate}
 use Rattle.rooms_rule.specs.declared.event.Event.{Event}
 use Rattle.rooms_rule.specs.declared.view.Opening.{Opening}
 use Rattle.rooms_rule.specs.declared.view.View.{View}

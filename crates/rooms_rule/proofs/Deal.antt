@@ -5,17 +5,17 @@ use lib.ListN.{get_elem?}
 use Rattle.atomic_table.specs.Table.{State, Splits, Joins}
 use Rattle.atomic_table.specs.Table as table
 use Rattle.atomic_table.proofs.Lists.{at_set}
-use Rattle.paxos_core.specs.KeptPart.{KeptPart}
-use Rattle.paxos_core.specs.Run.{reached}
-use Rattle.paxos_core.specs.Quorum.{AreQuorums}
-use Rattle.paxos_core.specs.Settled.{Settled}
-use Rattle.paxos_core.specs.World.{World, nodes_of, shown, shown_start, shown_vote}
-use Rattle.paxos_core.specs.Msg.{Msg}
-use Rattle.paxos_core.specs.Vote.{Vote}
-use Rattle.paxos_core.specs.NodeState.{node_with}
-use Rattle.paxos_core.proofs.BelongsLemmas.{belongs_with}
-use Rattle.paxos_core.specs.LateOffer.{BelongsWithLateOffer}
-use Rattle.paxos_core.proofs.LateLemmas.{offers_may_be_late}
+use Rattle.paxos_core_world.specs.KeptPart.{KeptPart}
+use Rattle.paxos_core_world.specs.Run.{reached}
+use Rattle.paxos_core_world.specs.Quorum.{AreQuorums}
+use Rattle.paxos_core_world.specs.Settled.{Settled}
+use Rattle.paxos_core_world.specs.World.{World, nodes_of, shown, shown_start, shown_vote}
+use Rattle.paxos_core_world.specs.declared.msg.Msg.{Msg}
+use Rattle.paxos_core_world.specs.declared.vote.Vote.{Vote}
+use Rattle.paxos_core_law.specs.NodeState.{node_with}
+use Rattle.paxos_core_law.proofs.BelongsLemmas.{belongs_with}
+use Rattle.paxos_core_late_offers.specs.LateOffer.{BelongsWithLateOffer}
+use Rattle.paxos_core_late_offers.proofs.LateLemmas.{offers_may_be_late}
 use Rattle.rooms_rule.specs.Words.{IsProposerWord}
 use Rattle.rooms_rule.specs.declared.event.Event.{Event}
 use Rattle.rooms_rule.specs.declared.view.Opening.{Opening}

@@ -1,20 +1,20 @@
 -- Runs as views keep them, and what steps of others leave.
 use Rattle.std.proofs.Common.{◌≡◌, ◌≢◌, ℕ, ◌<◌, ◌⊎◌, List, [], ◌∷◌, ◌++◌, append_assoc, refl, sym, ap, ◌∙◌, subst, inl, inr}
-use Rattle.paxos_core.specs.Ballot.{Owns}
-use Rattle.paxos_core.specs.KeptPart.{KeptPart, without_offer}
-use Rattle.paxos_core.specs.Quorum.{Sizes}
-use Rattle.paxos_core.specs.Run.{IsRun, reached}
-use Rattle.paxos_core.specs.Settled.{Settled}
-use Rattle.paxos_core.specs.Step.{Label, Offers, Starts, Promises, Proposes, Accepts, Learns, Restarts, Allowed}
-use Rattle.paxos_core.specs.World.{World, opening, nodes_of}
-use Rattle.paxos_core.proofs.Reopens.{reached-append, run_append}
-use Rattle.paxos_core.proofs.Theorem.{runs_stay_settled}
-use Rattle.paxos_core.specs.Agreement.{world_of}
-use Rattle.paxos_core.specs.NodeState.{NodeState}
-use Rattle.paxos_core.specs.Reached.{IsReached}
-use Rattle.paxos_core.specs.Takes.{AreStepsOf}
-use Rattle.paxos_core.specs.LateOffer.{BelongsWithLateOffer}
-use Rattle.paxos_core.proofs.LateLemmas.{others_leave_it}
+use Rattle.paxos_core_world.specs.Ballot.{Owns}
+use Rattle.paxos_core_world.specs.KeptPart.{KeptPart, without_offer}
+use Rattle.paxos_core_world.specs.Quorum.{Sizes}
+use Rattle.paxos_core_world.specs.Run.{IsRun, reached}
+use Rattle.paxos_core_world.specs.Settled.{Settled}
+use Rattle.paxos_core_world.specs.Step.{Label, Offers, Starts, Promises, Proposes, Accepts, Learns, Restarts, Allowed}
+use Rattle.paxos_core_world.specs.World.{World, opening, nodes_of}
+use Rattle.paxos_core_model.proofs.Reopens.{reached-append, run_append}
+use Rattle.paxos_core_model.proofs.Theorem.{runs_stay_settled}
+use Rattle.paxos_core_model.specs.Agreement.{world_of}
+use Rattle.paxos_core_law.specs.NodeState.{NodeState}
+use Rattle.paxos_core_law.specs.Reached.{IsReached}
+use Rattle.paxos_core_law.specs.Takes.{AreStepsOf}
+use Rattle.paxos_core_late_offers.specs.LateOffer.{BelongsWithLateOffer}
+use Rattle.paxos_core_late_offers.proofs.LateLemmas.{others_leave_it}
 use Rattle.rooms_rule.specs.declared.event.Event.{Event}
 use Rattle.rooms_rule.specs.declared.view.Opening.{Opening}
 use Rattle.rooms_rule.specs.Events.{label_of, event_of, labels_of, events_of}

@@ -2,17 +2,17 @@
 use Rattle.std.proofs.Common.{◌≡◌, ◌≢◌, ℕ, ◌*◌, ◌<◌, ◌≤◌, ◌⊎◌, Bool, true, false, cond, eqb, List, [], ◌∷◌, length, get_or, set, length-set, get_or-set_same, get_or-set_other, Option, Some, refl, sym, ap, ◌∙◌, subst, inl, inr, arith}
 use Rattle.std.proofs.lemmas.Bool.{eqb-true, ne_eqb, cond-false}
 use native.Mathlib.Decide.{ℕ_discrete}
-use Rattle.paxos_core.specs.Ballot.{Owns}
-use Rattle.paxos_core.specs.KeptPart.{KeptPart}
-use Rattle.paxos_core.specs.Quorum.{Sizes}
-use Rattle.paxos_core.specs.Run.{IsRun, reached}
-use Rattle.paxos_core.specs.Step.{Label, Offers, Starts, Promises, Proposes, Accepts, Learns, Restarts, after}
-use Rattle.paxos_core.specs.World.{World, put}
-use Rattle.paxos_core.specs.Msg.{Msg}
-use Rattle.paxos_core.specs.Vote.{Vote}
-use Rattle.paxos_core.specs.Reached.{IsReached}
-use Rattle.paxos_core.specs.Takes.{IsStepOf}
-use Rattle.paxos_core.proofs.WorldLemmas.{nodes_of_others, ProposesNot, proposes_not_of_others}
+use Rattle.paxos_core_world.specs.Ballot.{Owns}
+use Rattle.paxos_core_world.specs.KeptPart.{KeptPart}
+use Rattle.paxos_core_world.specs.Quorum.{Sizes}
+use Rattle.paxos_core_world.specs.Run.{IsRun, reached}
+use Rattle.paxos_core_world.specs.Step.{Label, Offers, Starts, Promises, Proposes, Accepts, Learns, Restarts, after}
+use Rattle.paxos_core_world.specs.World.{World, put}
+use Rattle.paxos_core_world.specs.declared.msg.Msg.{Msg}
+use Rattle.paxos_core_world.specs.declared.vote.Vote.{Vote}
+use Rattle.paxos_core_law.specs.Reached.{IsReached}
+use Rattle.paxos_core_law.specs.Takes.{IsStepOf}
+use Rattle.paxos_core_law.proofs.WorldLemmas.{nodes_of_others, ProposesNot, proposes_not_of_others}
 use Rattle.rooms_rule.specs.Words.{IsProposerWord, IsAcceptorWord}
 use Rattle.rooms_rule.specs.Views.{AreStepsOfOthers}
 use Rattle.rooms_rule.specs.WordsOf.{proposed_under, proposer_at, acceptor_at, IsProposerOf, IsAcceptorOf, ShowsWorld}

@@ -1,9 +1,9 @@
 -- How the seats of a room are dealt out as it opens, and how one seat tells another what it has seen.
 use Rattle.std.specs.Prelude.{ℕ, ◌+◌, true, false, []}
-use Rattle.paxos_core.specs.KeptPart.{nothing_kept}
-use Rattle.paxos_core.specs.Quorum.{sizes, Sizes}
-use Rattle.paxos_core.specs.World.{nodes_of}
-use Rattle.paxos_core.specs.NodeState.{NodeState, node_with, offered}
+use Rattle.paxos_core_world.specs.KeptPart.{nothing_kept}
+use Rattle.paxos_core_world.specs.Quorum.{sizes, Sizes}
+use Rattle.paxos_core_world.specs.World.{nodes_of}
+use Rattle.paxos_core_law.specs.NodeState.{NodeState, node_with, offered}
 use Rattle.rooms_rule.specs.declared.view.Opening.{Opening}
 use Rattle.rooms_rule.specs.declared.view.View.{View}
 

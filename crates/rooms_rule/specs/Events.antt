@@ -1,6 +1,6 @@
 -- The steps of the protocol as views keep them.
 use Rattle.std.specs.Prelude.{List, [], ◌∷◌}
-use Rattle.paxos_core.specs.Step.{Label, Offers, Starts, Promises, Proposes, Accepts, Learns, Restarts}
+use Rattle.paxos_core_world.specs.Step.{Label, Offers, Starts, Promises, Proposes, Accepts, Learns, Restarts}
 use Rattle.rooms_rule.specs.declared.event.Event.{Event}
 use Rattle.rooms_rule.specs.declared.event.Event.TheVariants as event
 

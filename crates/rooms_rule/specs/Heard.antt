@@ -1,12 +1,12 @@
 -- What a node makes of another acceptor's word: it notes the promise that the word shows for its ballot under way, and the
 -- vote that it shows, and may learn from that.
 use Rattle.std.specs.Prelude.{ℕ, List, [], Option, Some, None}
-use Rattle.paxos_core.specs.Step.{Label}
-use Rattle.paxos_core.specs.Msg.TheVariants.{Accepted}
-use Rattle.paxos_core.specs.Vote.{Vote}
-use Rattle.paxos_core.specs.Learner.{after_promise, after_vote}
-use Rattle.paxos_core.specs.NodeState.{NodeState}
-use Rattle.paxos_core.specs.Taken.{taken_on}
+use Rattle.paxos_core_world.specs.Step.{Label}
+use Rattle.paxos_core_world.specs.declared.msg.Msg.TheVariants.{Accepted}
+use Rattle.paxos_core_world.specs.declared.vote.Vote.{Vote}
+use Rattle.paxos_core_law.specs.Learner.{after_promise, after_vote}
+use Rattle.paxos_core_law.specs.NodeState.{NodeState}
+use Rattle.paxos_core_law.specs.Taken.{taken_on}
 
 -- after a vote of node j, if there is one
 abbrev pub after_shown_vote : NodeState → ℕ → Option Vote → NodeState

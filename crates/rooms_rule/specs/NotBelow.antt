@@ -1,6 +1,6 @@
 -- When a word is not below another of the same node: what it shows is the same or later.
 use Rattle.std.specs.Prelude.{◌≡◌, ℕ, ◌<◌, ◌≤◌, ◌⊎◌, Option, Some}
-use Rattle.paxos_core.specs.Vote.{Vote}
+use Rattle.paxos_core_world.specs.declared.vote.Vote.{Vote}
 
 -- a proposal of the other stands in it
 abbrev pub StandsIn : Option ℕ → Option ℕ → Type 0

@@ -1,8 +1,8 @@
 -- What a seat has last seen of a node's words: it is not above what stands there, and the messages that it shows were sent.
 use Rattle.std.specs.Prelude.{◌≡◌, ℕ, ◌≤◌, Some}
-use Rattle.paxos_core.specs.World.{World, Has}
-use Rattle.paxos_core.specs.Msg.TheVariants.{Prepare, Propose, Accepted}
-use Rattle.paxos_core.specs.Vote.{Vote}
+use Rattle.paxos_core_world.specs.World.{World, Has}
+use Rattle.paxos_core_world.specs.declared.msg.Msg.TheVariants.{Prepare, Propose, Accepted}
+use Rattle.paxos_core_world.specs.declared.vote.Vote.{Vote}
 use Rattle.rooms_rule.specs.declared.acceptor.AcceptorWord.{AcceptorWord}
 use Rattle.rooms_rule.specs.declared.proposer.ProposerWord.{ProposerWord}
 use Rattle.rooms_rule.specs.NotBelow.{ProposerNotBelow, AcceptorNotBelow}

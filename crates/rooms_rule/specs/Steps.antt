@@ -1,14 +1,14 @@
 -- What each kind of word step tells the seat that takes it.
 use Rattle.std.specs.Prelude.{◌≡◌, ℕ, ◌<◌, ◌⊎◌, List, [], ◌∷◌, ◌++◌, IfSome}
 use Rattle.atomic_table.specs.Table.{Step, Me}
-use Rattle.paxos_core.specs.Step.{Label, Offers}
-use Rattle.paxos_core.specs.NodeState.{NodeState, restarted}
-use Rattle.paxos_core.specs.Taken.{taken_by_restart}
-use Rattle.paxos_core.specs.Takes.{AreStepsOf}
-use Rattle.paxos_core.specs.Would.{after_act, taken_by_act}
-use Rattle.paxos_core.specs.Act.{Act}
-use Rattle.paxos_core.specs.Act.TheVariants as act
-use Rattle.paxos_core.specs.LateOffer.{BelongsWithLateOffer}
+use Rattle.paxos_core_world.specs.Step.{Label, Offers}
+use Rattle.paxos_core_law.specs.NodeState.{NodeState, restarted}
+use Rattle.paxos_core_law.specs.Taken.{taken_by_restart}
+use Rattle.paxos_core_law.specs.Takes.{AreStepsOf}
+use Rattle.paxos_core_law.specs.Would.{after_act, taken_by_act}
+use Rattle.paxos_core_law.specs.declared.step.Act.{Act}
+use Rattle.paxos_core_law.specs.declared.step.Act.TheVariants as act
+use Rattle.paxos_core_late_offers.specs.LateOffer.{BelongsWithLateOffer}
 use Rattle.rooms_rule.specs.Words.{promised_in, accepted_in}
 use Rattle.rooms_rule.specs.declared.event.Event.{Event}
 use Rattle.rooms_rule.specs.declared.view.View.{View}

@@ -1,10 +1,10 @@
 -- What a seat knows of its room, and when that fits the run that the room has had.
 use Rattle.std.specs.Prelude.{◌≡◌, ◌≢◌, ℕ, ◌+◌, ◌<◌, ◌≤◌, true, List, [], ◌∷◌, ◌++◌}
-use Rattle.paxos_core.specs.Step.{Label}
-use Rattle.paxos_core.specs.World.{World, nodes_of}
-use Rattle.paxos_core.specs.Agreement.{IsSettledRun, world_of}
-use Rattle.paxos_core.specs.Takes.{IsStepOf}
-use Rattle.paxos_core.specs.LateOffer.{BelongsWithLateOffer}
+use Rattle.paxos_core_world.specs.Step.{Label}
+use Rattle.paxos_core_world.specs.World.{World, nodes_of}
+use Rattle.paxos_core_model.specs.Agreement.{IsSettledRun, world_of}
+use Rattle.paxos_core_law.specs.Takes.{IsStepOf}
+use Rattle.paxos_core_late_offers.specs.LateOffer.{BelongsWithLateOffer}
 use Rattle.rooms_rule.specs.declared.event.Event.{Event}
 use Rattle.rooms_rule.specs.declared.view.Opening.{Opening}
 use Rattle.rooms_rule.specs.declared.view.View.{View}

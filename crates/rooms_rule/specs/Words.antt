@@ -1,7 +1,7 @@
 -- The two words of a node of a room: ballots and values at fixed places of one number.
 use Rattle.std.specs.Prelude.{◌≡◌, ℕ, ◌+◌, ◌-◌, ◌*◌, ◌/◌, ◌%◌, ◌<◌, ◌≤◌, ◌==◌, if◌then◌else◌, Option, Some, None}
-use Rattle.paxos_core.specs.KeptPart.{vote}
-use Rattle.paxos_core.specs.Vote.{Vote}
+use Rattle.paxos_core_world.specs.KeptPart.{vote}
+use Rattle.paxos_core_world.specs.declared.vote.Vote.{Vote}
 
 -- 0 for none, else one more than the value
 abbrev pub code_of : Option ℕ → ℕ

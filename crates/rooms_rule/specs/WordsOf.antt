@@ -1,9 +1,9 @@
 -- The words of a world: each node has two, side by side, its proposer's before its acceptor's.
 use Rattle.std.specs.Prelude.{◌≡◌, ℕ, ◌+◌, ◌*◌, ◌<◌, ◌==◌, if◌then◌else◌, List, [], ◌∷◌, Option, Some, None, length, slice_index}
-use Rattle.paxos_core.specs.KeptPart.{KeptPart}
-use Rattle.paxos_core.specs.World.{World}
-use Rattle.paxos_core.specs.Msg.{Msg}
-use Rattle.paxos_core.specs.Msg.TheVariants.{Prepare, Promise, Propose, Accepted}
+use Rattle.paxos_core_world.specs.KeptPart.{KeptPart}
+use Rattle.paxos_core_world.specs.World.{World}
+use Rattle.paxos_core_world.specs.declared.msg.Msg.{Msg}
+use Rattle.paxos_core_world.specs.declared.msg.Msg.TheVariants.{Prepare, Promise, Propose, Accepted}
 use Rattle.rooms_rule.specs.Words.{IsProposerWord, IsAcceptorWord}
 
 -- the value that was proposed under ballot b, if one was

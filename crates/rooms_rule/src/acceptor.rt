@@ -1,7 +1,7 @@
 ghost use Rattle.std.specs.Prelude.{◌≡◌, ◌<◌, ◌≤◌, IfSome};
 ghost use Rattle.rooms_rule.specs.Words.{acceptor_word, accepted_in, promised_in, IsAcceptorWord, IsVoteInWord};
 
-use paxos_core::vote::Vote;
+use paxos_core_world::vote::Vote;
 
 /// The word of a node's acceptor.
 ///

@@ -11,4 +11,3 @@ pub mod proposer;
 pub mod rule;
 pub mod view;
 
-pub use paxos_core::{CoreError, Kept, Msg, Node, Quorums, Step, Vote, settled};

@@ -1,5 +1,6 @@
 use crate::event::Event;
-use paxos_core::{Kept, Node, Quorums};
+use paxos_core_world::{kept::Kept, quorum::Quorums};
+use paxos_core::Node;
 use std::collections::LinkedList;
 
 /// How a room was opened: how many nodes it has and are its quorums, and what each of them had kept.

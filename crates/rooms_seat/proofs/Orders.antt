@@ -8,15 +8,15 @@ use Rattle.paxos_core_world.specs.Settled.{is_given}
 use Rattle.paxos_core_world.specs.World.{Has}
 use Rattle.paxos_core_world.specs.declared.msg.Msg.TheVariants.{Propose, Accepted}
 use Rattle.paxos_core_world.specs.declared.vote.Vote.{Vote}
-use Rattle.rooms_state.specs.NodeState.{NodeState}
-use Rattle.rooms_state.specs.Proposer.{next_proposal, propose_message}
-use Rattle.rooms_state.specs.PaxosCoreLawWould.{next_vote}
-use Rattle.rooms_state.specs.LateOffer.{taken_late_by_propose}
-use Rattle.rooms_state.proofs.LateLemmas.{offers_may_be_late}
-use Rattle.rooms_state.proofs.OfferLemmas.{proposal_offered}
-use Rattle.rooms_state.proofs.RunLemmas.{reached_more, kept_of}
-use Rattle.rooms_state.proofs.HearLemmas.{invariant_of}
-use Rattle.rooms_state.proofs.RunLemmas.{legal_reached}
+use Rattle.paxos_core_law.specs.NodeState.{NodeState}
+use Rattle.paxos_core_law.specs.Proposer.{next_proposal, propose_message}
+use Rattle.paxos_core_law.specs.Would.{next_vote}
+use Rattle.paxos_core_late_offers.specs.LateOffer.{taken_late_by_propose}
+use Rattle.paxos_core_late_offers.proofs.LateLemmas.{offers_may_be_late}
+use Rattle.rooms_steps.proofs.OfferLemmas.{proposal_offered}
+use Rattle.rooms_rule.proofs.RunLemmas.{reached_more, kept_of}
+use Rattle.rooms_steps.proofs.HearLemmas.{invariant_of}
+use Rattle.rooms_rule.proofs.RunLemmas.{legal_reached}
 use Rattle.rooms_state.proofs.Moves.{nodes_are, number_below}
 use Rattle.rooms_state.proofs.Acts.{vote_seen}
 use Rattle.rooms_state.specs.SeatState.{SeatState, seen_world, proposer_of, vote_by, vote_of}

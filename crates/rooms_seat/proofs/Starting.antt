@@ -2,15 +2,15 @@
 use Rattle.std.proofs.Common.{◌≡◌, ℕ, zero, suc, ◌<◌, List, [], ◌∷◌, length, map, get_or, None, IfSome, refl, sym, ap, ◌∙◌, subst, arith}
 use Rattle.paxos_core_world.specs.KeptPart.{KeptPart, nothing_kept}
 use Rattle.paxos_core_world.specs.World.{nodes_of}
-use Rattle.rooms_met.specs.NodeState.{NodeState, new_node, node_with, restarted}
-use Rattle.rooms_state.specs.Deal.{dealt}
-use Rattle.rooms_state.specs.AcceptorWord.{AcceptorWord}
-use Rattle.rooms_state.specs.ProposerWord.{ProposerWord}
-use Rattle.rooms_state.specs.Opening.{Opening}
-use Rattle.rooms_state.specs.View.{View}
-use Rattle.rooms_met.specs.RoomAt.{RoomAt}
+use Rattle.paxos_core_law.specs.NodeState.{NodeState, new_node, node_with, restarted}
+use Rattle.rooms_rule.specs.Deal.{dealt}
+use Rattle.rooms_rule.specs.declared.acceptor.AcceptorWord.{AcceptorWord}
+use Rattle.rooms_rule.specs.declared.proposer.ProposerWord.{ProposerWord}
+use Rattle.rooms_rule.specs.declared.view.Opening.{Opening}
+use Rattle.rooms_rule.specs.declared.view.View.{View}
+use Rattle.rooms_table.specs.RoomAt.{RoomAt}
 use Rattle.rooms_state.specs.SeatState.{opened_acceptor, opened_proposer, opened_seat, CanOpen, SeatState}
-use Rattle.rooms_state.specs.Words.{IsVoteInWord}
+use Rattle.rooms_rule.specs.Words.{IsVoteInWord}
 use Rattle.rooms_state.proofs.Opened.{vote_fits}
 
 -- what stands in a row, whatever stands for what is not there

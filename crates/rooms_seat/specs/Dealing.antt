@@ -3,10 +3,10 @@ use Rattle.std.specs.Prelude.{◌≡◌, ℕ, List, length}
 use Rattle.atomic_table.specs.Seated.{TableId}
 use Rattle.paxos_core_world.specs.KeptPart.{KeptPart}
 use Rattle.paxos_core_world.specs.Quorum.{Sizes}
-use Rattle.rooms_state.specs.Deal.{dealing}
-use Rattle.rooms_state.specs.Opening.{Opening}
-use Rattle.rooms_state.specs.View.{View}
-use Rattle.rooms_met.specs.RoomAt.{HasWords, RoomAt}
+use Rattle.rooms_rule.specs.Deal.{dealing}
+use Rattle.rooms_rule.specs.declared.view.Opening.{Opening}
+use Rattle.rooms_rule.specs.declared.view.View.{View}
+use Rattle.rooms_table.specs.RoomAt.{HasWords, RoomAt}
 use Rattle.rooms_state.specs.SeatState.{opening_of, CanOpen}
 
 -- which room it is, how it was opened, and whose seat comes next

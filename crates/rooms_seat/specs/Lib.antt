@@ -1,14 +1,2 @@
 pub mod Meeting
 pub mod Dealing
-pub use Rattle.rooms_state.specs.Did
-pub use Rattle.rooms_state.specs.SeatState
-pub use Rattle.rooms_state.specs.Would
-pub use Rattle.rooms_state.specs.declared.act.Act
-pub use Rattle.rooms_met.specs.RoomAt
-pub use Rattle.rooms_met.specs.Opening
-pub use Rattle.rooms_met.specs.AcceptorWord
-pub use Rattle.rooms_met.specs.ProposerWord
-pub use Rattle.rooms_state.specs.NodeState
-pub use Rattle.rooms_state.specs.Proposer
-pub use Rattle.rooms_state.specs.PaxosCoreLawWould
-pub use Rattle.rooms_state.specs.PaxosCoreLawStep

@@ -11,6 +11,4 @@ mod seat;
 
 pub use meeting::{Meeting, meet};
 pub use opening::{Dealer, FourDealers, open_four};
-pub use rooms_met::{CoreError, Kept, Quorums, Step, Vote, acceptor, proposer, settled};
-pub use rooms_state::act;
 pub use seat::WordSeat;

@@ -1,30 +1,31 @@
 ghost use Rattle.std.specs.Prelude.{◌≡◌, ◌<◌, ◌↔◌, Some, None, IsErr, IsNone, OnErr, IfOk, IfSome};
-ghost use Rattle.rooms_met.specs.Proposer.{next_ballot, next_proposal};
-ghost use Rattle.rooms_met.specs.Act.TheVariants as act;
+ghost use Rattle.paxos_core_law.specs.Proposer.{next_ballot, next_proposal};
+ghost use Rattle.paxos_core_law.specs.declared.step.Act.TheVariants as act;
 ghost use Rattle.rooms_state.specs.Did.{Did, Forgotten, LookedAtAcceptor, LookedAtProposer};
 ghost use Rattle.rooms_state.specs.Would.{would, IsAmong};
 ghost use Rattle.rooms_state.specs.declared.act.Act.TheVariants as asked;
-ghost use Rattle.rooms_met.specs.NodeState.{offered};
+ghost use Rattle.paxos_core_law.specs.NodeState.{offered};
 ghost use Rattle.rooms_seat.specs.Meeting.{IsBounded, IsKnown};
 ghost use Rattle.rooms_state.specs.SeatState.{opened_seat, own_words, CanOpen, promise_of, proposer_of, seen_world, vote_by, vote_of};
-ghost use Rattle.rooms_met.specs.RoomAt.{HasWords};
+ghost use Rattle.rooms_table.specs.RoomAt.{HasWords};
 ghost use Rattle.paxos_core_world.specs.Quorum.{AreQuorums};
 ghost use Rattle.rooms_met.specs.Seen.{heard_with};
-ghost use Rattle.rooms_state.specs.Deal.{dealt, informed};
-ghost use Rattle.rooms_state.specs.Heard.{after_hearing};
+ghost use Rattle.rooms_rule.specs.Deal.{dealt, informed};
+ghost use Rattle.rooms_rule.specs.Heard.{after_hearing};
 ghost use Rattle.rooms_state.specs.Sound.{IsSound};
-ghost use Rattle.rooms_state.specs.Words.{accepted_in, promised_in};
+ghost use Rattle.rooms_rule.specs.Words.{accepted_in, promised_in};
 ghost use Rattle.paxos_core_world.specs.World.{Has};
 
 use crate::opening::opened_words;
-use rooms_met::{CoreError, Kept, Msg, Node, Rights, SeenWords, Step, Vote};
-use rooms_state::acceptor::AcceptorWord;
+use paxos_core::{CoreError, Node};
+use paxos_core_world::{kept::Kept, msg::Msg, vote::Vote};
+use rooms_rights::{Rights, SeenWords};
+use paxos_core_law::step::Step;
+use rooms_rule::acceptor::AcceptorWord;
 use rooms_state::act::Act;
-use rooms_state::proposer::ProposerWord;
-use rooms_state::rule::{
-    Accepts, Forgets, LooksAtAcceptor, LooksAtProposer, Promises, Proposes, Starts,
-};
-use rooms_state::view::Opening;
+use rooms_rule::proposer::ProposerWord;
+use rooms_rule::{rule::Accepts, rule::Forgets, rule::LooksAtAcceptor, rule::LooksAtProposer, rule::Promises, rule::Proposes, rule::Starts};
+use rooms_rule::view::Opening;
 use std::marker::Model;
 
 /// One node's right to store its two words of a room and to load all. Its calls take no lock, wait for nobody and return.

@@ -13,28 +13,28 @@ use Rattle.paxos_core_world.specs.World.{World, Has}
 use Rattle.paxos_core_world.specs.declared.msg.Msg.{Msg}
 use Rattle.paxos_core_world.specs.declared.msg.Msg.TheVariants.{Prepare, Propose}
 use Rattle.paxos_core_world.specs.declared.vote.Vote.{Vote}
-use Rattle.rooms_steps.specs.Acceptor.{is_vote, promises, accepts, after_prepare, after_propose}
-use Rattle.rooms_steps.specs.Message.{after_message}
-use Rattle.rooms_steps.specs.NodeState.{NodeState, offered}
-use Rattle.rooms_steps.specs.Proposer.{next_ballot, started, next_proposal, propose_message, after_answer, after_proposal}
-use Rattle.rooms_steps.specs.Reached.{IsReached}
-use Rattle.rooms_steps.specs.Would.{after_act, next_promise, next_vote}
-use Rattle.rooms_steps.specs.Act.{Act}
-use Rattle.rooms_steps.specs.Act.TheVariants as act
-use Rattle.rooms_steps.specs.LateOffer.{taken_late_by_propose}
-use Rattle.rooms_steps.proofs.LateLemmas.{offers_may_be_late}
-use Rattle.rooms_steps.specs.Words.{proposed_in, IsProposerWord, IsAcceptorWord}
-use Rattle.rooms_steps.specs.AcceptorWord.{AcceptorWord}
-use Rattle.rooms_steps.specs.ProposerWord.{ProposerWord}
-use Rattle.rooms_steps.specs.Opening.{Opening}
-use Rattle.rooms_steps.specs.View.{View}
-use Rattle.rooms_steps.specs.Rule.{RoomRule}
-use Rattle.rooms_steps.specs.Steps.{Advances, AreTakenBy, Took, StoresProposer, StoresAcceptor, StartStore, ProposeStore, PromiseStore, AcceptStore}
-use Rattle.rooms_steps.specs.Views.{world_after}
-use Rattle.rooms_steps.specs.WordsOf.{IsProposerOf}
+use Rattle.paxos_core_law.specs.Acceptor.{is_vote, promises, accepts, after_prepare, after_propose}
+use Rattle.paxos_core_law.specs.Message.{after_message}
+use Rattle.paxos_core_law.specs.NodeState.{NodeState, offered}
+use Rattle.paxos_core_law.specs.Proposer.{next_ballot, started, next_proposal, propose_message, after_answer, after_proposal}
+use Rattle.paxos_core_law.specs.Reached.{IsReached}
+use Rattle.paxos_core_law.specs.Would.{after_act, next_promise, next_vote}
+use Rattle.paxos_core_law.specs.declared.step.Act.{Act}
+use Rattle.paxos_core_law.specs.declared.step.Act.TheVariants as act
+use Rattle.paxos_core_late_offers.specs.LateOffer.{taken_late_by_propose}
+use Rattle.paxos_core_late_offers.proofs.LateLemmas.{offers_may_be_late}
+use Rattle.rooms_rule.specs.Words.{proposed_in, IsProposerWord, IsAcceptorWord}
+use Rattle.rooms_rule.specs.declared.acceptor.AcceptorWord.{AcceptorWord}
+use Rattle.rooms_rule.specs.declared.proposer.ProposerWord.{ProposerWord}
+use Rattle.rooms_rule.specs.declared.view.Opening.{Opening}
+use Rattle.rooms_rule.specs.declared.view.View.{View}
+use Rattle.rooms_rule.specs.Rule.{RoomRule}
+use Rattle.rooms_rule.specs.Steps.{Advances, AreTakenBy, Took, StoresProposer, StoresAcceptor, StartStore, ProposeStore, PromiseStore, AcceptStore}
+use Rattle.rooms_rule.specs.Views.{world_after}
+use Rattle.rooms_rule.specs.WordsOf.{IsProposerOf}
 use Rattle.rooms_steps.proofs.HearLemmas.{invariant_of}
 use Rattle.rooms_steps.proofs.OfferLemmas.{message_offered, proposal_offered, proposed_offered}
-use Rattle.rooms_steps.proofs.RunLemmas.{legal_reached, reached_more, kept_of}
+use Rattle.rooms_rule.proofs.RunLemmas.{legal_reached, reached_more, kept_of}
 use Rattle.rooms_steps.proofs.Stores.{keeps_if, stores_promise, stores_vote, stores_start, stores_proposal}
 use Rattle.rooms_state.specs.SeatState.{SeatState, no_proposer, seen_world, vote_by}
 use Rattle.rooms_state.specs.Sound.{IsSound}

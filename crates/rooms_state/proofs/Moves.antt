@@ -8,31 +8,31 @@ use Rattle.paxos_core_world.specs.Run.{IsRun, reached}
 use Rattle.paxos_core_world.specs.Step.{Label}
 use Rattle.paxos_core_world.specs.World.{World}
 use Rattle.paxos_core_world.specs.declared.vote.Vote.{Vote}
-use Rattle.rooms_steps.specs.Learner.{after_promise, notes_promise, notes_vote}
-use Rattle.rooms_steps.specs.NodeState.{NodeState, offered, restarted}
-use Rattle.rooms_steps.specs.Reached.{IsReached}
-use Rattle.rooms_steps.specs.Taken.{taken_by_restart}
-use Rattle.rooms_steps.specs.LateOffer.{BelongsWithLateOffer}
-use Rattle.rooms_steps.specs.Words.{started_in, proposed_in, promised_in, accepted_in}
-use Rattle.rooms_steps.specs.AcceptorWord.{AcceptorWord}
-use Rattle.rooms_steps.specs.ProposerWord.{ProposerWord}
-use Rattle.rooms_steps.specs.Event.{Event}
-use Rattle.rooms_steps.specs.Opening.{Opening}
-use Rattle.rooms_steps.specs.View.{View}
-use Rattle.rooms_steps.specs.Events.{labels_of, events_of}
-use Rattle.rooms_steps.specs.Heard.{after_hearing, after_shown_vote, taken_by_hearing}
-use Rattle.rooms_steps.specs.NotBelow.{ProposerNotBelow, AcceptorNotBelow}
-use Rattle.rooms_steps.specs.Sight.{ProposerSeen, AcceptorSeen}
-use Rattle.rooms_steps.specs.Steps.{Advances, LooksAtProposer, LooksAtAcceptor, Forgot, ForgotAt}
-use Rattle.rooms_steps.specs.Views.{world_after, IsLegal}
-use Rattle.rooms_steps.specs.WordsOf.{proposed_by, IsProposerOf, IsAcceptorOf}
-use Rattle.rooms_steps.proofs.Advance.{view_with}
+use Rattle.paxos_core_law.specs.Learner.{after_promise, notes_promise, notes_vote}
+use Rattle.paxos_core_law.specs.NodeState.{NodeState, offered, restarted}
+use Rattle.paxos_core_law.specs.Reached.{IsReached}
+use Rattle.paxos_core_law.specs.Taken.{taken_by_restart}
+use Rattle.paxos_core_late_offers.specs.LateOffer.{BelongsWithLateOffer}
+use Rattle.rooms_rule.specs.Words.{started_in, proposed_in, promised_in, accepted_in}
+use Rattle.rooms_rule.specs.declared.acceptor.AcceptorWord.{AcceptorWord}
+use Rattle.rooms_rule.specs.declared.proposer.ProposerWord.{ProposerWord}
+use Rattle.rooms_rule.specs.declared.event.Event.{Event}
+use Rattle.rooms_rule.specs.declared.view.Opening.{Opening}
+use Rattle.rooms_rule.specs.declared.view.View.{View}
+use Rattle.rooms_rule.specs.Events.{labels_of, events_of}
+use Rattle.rooms_rule.specs.Heard.{after_hearing, after_shown_vote, taken_by_hearing}
+use Rattle.rooms_rule.specs.NotBelow.{ProposerNotBelow, AcceptorNotBelow}
+use Rattle.rooms_rule.specs.Sight.{ProposerSeen, AcceptorSeen}
+use Rattle.rooms_rule.specs.Steps.{Advances, LooksAtProposer, LooksAtAcceptor, Forgot, ForgotAt}
+use Rattle.rooms_rule.specs.Views.{world_after, IsLegal}
+use Rattle.rooms_rule.specs.WordsOf.{proposed_by, IsProposerOf, IsAcceptorOf}
+use Rattle.rooms_rule.proofs.Advance.{view_with}
 use Rattle.rooms_steps.proofs.HearLemmas.{me_hearing}
 use Rattle.rooms_steps.proofs.Looks.{vote_quiet}
 use Rattle.rooms_steps.proofs.OfferLemmas.{hearing_offered}
-use Rattle.rooms_steps.proofs.RunLemmas.{world_after-events, world_after-append, legal_reached, legal_before, run_behind, started_own, kept_of}
+use Rattle.rooms_rule.proofs.RunLemmas.{world_after-events, world_after-append, legal_reached, legal_before, run_behind, started_own, kept_of}
 use Rattle.rooms_steps.proofs.Stays.{proposer_seen_later, acceptor_seen_later, proposer_seen, acceptor_seen}
-use Rattle.rooms_steps.proofs.WordLemmas.{proposer_of_others}
+use Rattle.rooms_rule.proofs.WordLemmas.{proposer_of_others}
 use Rattle.rooms_table.specs.RoomAt.{RoomAt}
 use Rattle.rooms_state.specs.Did.{LookedAtAcceptor, LookedAtProposer, Forgotten}
 use Rattle.rooms_state.specs.SeatState.{SeatState, no_proposer, no_acceptor, proposer_of, acceptor_of, own_words, seen_world}

@@ -8,13 +8,13 @@ use Rattle.paxos_core_world.specs.Quorum.{AreQuorums, Sizes}
 use Rattle.paxos_core_world.specs.Settled.{Settled}
 use Rattle.paxos_core_world.specs.World.{nodes_of}
 use Rattle.paxos_core_world.specs.declared.vote.Vote.{Vote}
-use Rattle.rooms_steps.specs.AcceptorWord.{AcceptorWord}
-use Rattle.rooms_steps.specs.ProposerWord.{ProposerWord}
-use Rattle.rooms_steps.specs.Opening.{Opening}
-use Rattle.rooms_steps.specs.Views.{world_after, IsLegal}
-use Rattle.rooms_steps.specs.Words.{IsProposerWord, IsVoteInWord, decoded}
-use Rattle.rooms_steps.proofs.Deal.{opens_with, opening_word, none_proposed_yet}
-use Rattle.rooms_steps.proofs.RunLemmas.{legal_reached}
+use Rattle.rooms_rule.specs.declared.acceptor.AcceptorWord.{AcceptorWord}
+use Rattle.rooms_rule.specs.declared.proposer.ProposerWord.{ProposerWord}
+use Rattle.rooms_rule.specs.declared.view.Opening.{Opening}
+use Rattle.rooms_rule.specs.Views.{world_after, IsLegal}
+use Rattle.rooms_rule.specs.Words.{IsProposerWord, IsVoteInWord, decoded}
+use Rattle.rooms_rule.proofs.Deal.{opens_with, opening_word, none_proposed_yet}
+use Rattle.rooms_rule.proofs.RunLemmas.{legal_reached}
 use Rattle.rooms_steps.proofs.Stays.{proposer_seen, acceptor_seen}
 use Rattle.rooms_state.specs.SeatState.{CanOpen, opening_of, opened_proposer, opened_acceptor, opened_seat, no_proposer, no_acceptor}
 use Rattle.rooms_state.specs.Sound.{IsSound}

@@ -5,21 +5,21 @@ use Rattle.paxos_core_world.specs.KeptPart.{vote}
 use Rattle.paxos_core_world.specs.Quorum.{count_below, promise_quorum, AreQuorums, Sizes}
 use Rattle.paxos_core_world.proofs.Quorums.{some_promise}
 use Rattle.paxos_core_world.specs.declared.vote.Vote.{Vote}
-use Rattle.rooms_steps.specs.Acceptor.{promises, accepts}
-use Rattle.rooms_steps.specs.Learner.{learned_with, notes_promise, notes_vote, after_promise}
-use Rattle.rooms_steps.specs.NodeState.{NodeState, nothing_noted}
-use Rattle.rooms_steps.specs.Notes.{has_promised, highest_below}
-use Rattle.rooms_steps.specs.Proposer.{floor_of, next_ballot, started, next_proposal, propose_message, proposal_under, choice, after_answer}
-use Rattle.rooms_steps.specs.Would.{after_act, kept_by}
-use Rattle.rooms_steps.specs.Would as core
-use Rattle.rooms_steps.specs.Act.{Act as CoreAct}
-use Rattle.rooms_steps.specs.Act.TheVariants as core_act
-use Rattle.rooms_steps.specs.PaxosCoreLawStep.{Step}
-use Rattle.rooms_steps.specs.PaxosCoreLawStep.TheVariants as step
-use Rattle.rooms_steps.proofs.BallotLemmas.{least_above_is}
-use Rattle.rooms_steps.proofs.WouldLemmas.{told_is_done, proposed_once}
-use Rattle.rooms_steps.specs.Heard.{after_shown_vote, after_hearing}
-use Rattle.rooms_steps.specs.AcceptorWord.{AcceptorWord}
+use Rattle.paxos_core_law.specs.Acceptor.{promises, accepts}
+use Rattle.paxos_core_law.specs.Learner.{learned_with, notes_promise, notes_vote, after_promise}
+use Rattle.paxos_core_law.specs.NodeState.{NodeState, nothing_noted}
+use Rattle.paxos_core_law.specs.Notes.{has_promised, highest_below}
+use Rattle.paxos_core_law.specs.Proposer.{floor_of, next_ballot, started, next_proposal, propose_message, proposal_under, choice, after_answer}
+use Rattle.paxos_core_law.specs.Would.{after_act, kept_by}
+use Rattle.paxos_core_law.specs.Would as core
+use Rattle.paxos_core_law.specs.declared.step.Act.{Act as CoreAct}
+use Rattle.paxos_core_law.specs.declared.step.Act.TheVariants as core_act
+use Rattle.paxos_core_law.specs.declared.step.Step.{Step}
+use Rattle.paxos_core_law.specs.declared.step.Step.TheVariants as step
+use Rattle.paxos_core_law.proofs.BallotLemmas.{least_above_is}
+use Rattle.paxos_core_law.proofs.WouldLemmas.{told_is_done, proposed_once}
+use Rattle.rooms_rule.specs.Heard.{after_shown_vote, after_hearing}
+use Rattle.rooms_rule.specs.declared.acceptor.AcceptorWord.{AcceptorWord}
 use Rattle.rooms_steps.proofs.HearLemmas.{me_hearing}
 use Rattle.rooms_state.specs.declared.act.Act.{Act}
 use Rattle.rooms_state.specs.declared.act.Act.TheVariants as act

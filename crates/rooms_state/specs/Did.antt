@@ -1,15 +1,15 @@
 -- What a call of a seat does: one word step, and with it at most one step of the protocol and an offer.
 use Rattle.std.specs.Prelude.{◌≡◌, ◌≢◌, ℕ, [], Option, Some, slice_set}
-use Rattle.rooms_steps.specs.NodeState.{restarted}
-use Rattle.rooms_steps.specs.Would.{after_act}
-use Rattle.rooms_steps.specs.Act.{Act}
-use Rattle.rooms_steps.specs.AcceptorWord.{AcceptorWord}
-use Rattle.rooms_steps.specs.ProposerWord.{ProposerWord}
-use Rattle.rooms_steps.specs.Heard.{after_hearing, taken_by_hearing}
-use Rattle.rooms_steps.specs.NotBelow.{ProposerNotBelow, AcceptorNotBelow}
-use Rattle.rooms_steps.specs.Steps.{Advances, Took, Forgot}
-use Rattle.rooms_steps.specs.View.{View}
-use Rattle.rooms_steps.specs.WordsOf.{proposed_by}
+use Rattle.paxos_core_law.specs.NodeState.{restarted}
+use Rattle.paxos_core_law.specs.Would.{after_act}
+use Rattle.paxos_core_law.specs.declared.step.Act.{Act}
+use Rattle.rooms_rule.specs.declared.acceptor.AcceptorWord.{AcceptorWord}
+use Rattle.rooms_rule.specs.declared.proposer.ProposerWord.{ProposerWord}
+use Rattle.rooms_rule.specs.Heard.{after_hearing, taken_by_hearing}
+use Rattle.rooms_rule.specs.NotBelow.{ProposerNotBelow, AcceptorNotBelow}
+use Rattle.rooms_rule.specs.Steps.{Advances, Took, Forgot}
+use Rattle.rooms_rule.specs.declared.view.View.{View}
+use Rattle.rooms_rule.specs.WordsOf.{proposed_by}
 use Rattle.rooms_state.specs.SeatState.{SeatState, seen_world, proposer_of, acceptor_of}
 
 -- the seat looked at node j's proposer and saw this: what stands in the world then seen, not below what it saw before, and of

@@ -2,19 +2,3 @@ pub mod SeatState
 pub mod Sound
 pub mod Did
 pub mod Would
-pub use Rattle.rooms_steps.specs.Deal
-pub use Rattle.rooms_steps.specs.Events
-pub use Rattle.rooms_steps.specs.Heard
-pub use Rattle.rooms_steps.specs.Steps
-pub use Rattle.rooms_steps.specs.Views
-pub use Rattle.rooms_steps.specs.Words
-pub use Rattle.rooms_steps.specs.AcceptorWord
-pub use Rattle.rooms_steps.specs.Event
-pub use Rattle.rooms_steps.specs.ProposerWord
-pub use Rattle.rooms_steps.specs.Opening
-pub use Rattle.rooms_steps.specs.View
-pub use Rattle.rooms_steps.specs.LateOffer
-pub use Rattle.rooms_steps.specs.NodeState
-pub use Rattle.rooms_steps.specs.Proposer
-pub use Rattle.rooms_steps.specs.Would as PaxosCoreLawWould
-pub use Rattle.rooms_steps.specs.PaxosCoreLawStep

@@ -5,14 +5,14 @@ use Rattle.paxos_core_world.specs.Quorum.{AreQuorums, Sizes}
 use Rattle.paxos_core_world.specs.Settled.{Settled, is_given}
 use Rattle.paxos_core_world.specs.World.{World, nodes_of}
 use Rattle.paxos_core_world.specs.declared.vote.Vote.{Vote}
-use Rattle.rooms_steps.specs.NodeState.{NodeState, node_with}
-use Rattle.rooms_steps.specs.Would.{next_promise, next_vote}
-use Rattle.rooms_steps.specs.AcceptorWord.{AcceptorWord}
-use Rattle.rooms_steps.specs.ProposerWord.{ProposerWord}
-use Rattle.rooms_steps.specs.Deal.{dealt}
-use Rattle.rooms_steps.specs.Opening.{Opening}
-use Rattle.rooms_steps.specs.View.{View}
-use Rattle.rooms_steps.specs.Views.{world_after}
+use Rattle.paxos_core_law.specs.NodeState.{NodeState, node_with}
+use Rattle.paxos_core_law.specs.Would.{next_promise, next_vote}
+use Rattle.rooms_rule.specs.declared.acceptor.AcceptorWord.{AcceptorWord}
+use Rattle.rooms_rule.specs.declared.proposer.ProposerWord.{ProposerWord}
+use Rattle.rooms_rule.specs.Deal.{dealt}
+use Rattle.rooms_rule.specs.declared.view.Opening.{Opening}
+use Rattle.rooms_rule.specs.declared.view.View.{View}
+use Rattle.rooms_rule.specs.Views.{world_after}
 use Rattle.rooms_table.specs.RoomAt.{RoomAt}
 
 -- which room it is, what the seat knows of its run, its node, the value that the node has proposed under the ballot that it

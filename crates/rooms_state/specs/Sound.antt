@@ -1,12 +1,12 @@
 -- What holds of every seat.
 use Rattle.std.specs.Prelude.{◌≡◌, ℕ, ◌<◌, ◌≤◌, ◌⊎◌, length}
 use Rattle.paxos_core_world.specs.Ballot.{Owns}
-use Rattle.rooms_steps.specs.NodeState.{offered}
-use Rattle.rooms_steps.specs.LateOffer.{BelongsWithLateOffer}
-use Rattle.rooms_steps.specs.Words.{proposed_in}
-use Rattle.rooms_steps.specs.Sight.{ProposerSeen, AcceptorSeen}
-use Rattle.rooms_steps.specs.Views.{IsLegal, IsSeated}
-use Rattle.rooms_steps.specs.WordsOf.{IsProposerOf}
+use Rattle.paxos_core_law.specs.NodeState.{offered}
+use Rattle.paxos_core_late_offers.specs.LateOffer.{BelongsWithLateOffer}
+use Rattle.rooms_rule.specs.Words.{proposed_in}
+use Rattle.rooms_rule.specs.Sight.{ProposerSeen, AcceptorSeen}
+use Rattle.rooms_rule.specs.Views.{IsLegal, IsSeated}
+use Rattle.rooms_rule.specs.WordsOf.{IsProposerOf}
 use Rattle.rooms_table.specs.RoomAt.{HasWords}
 use Rattle.rooms_state.specs.SeatState.{SeatState, seen_world, proposer_of, acceptor_of}
 

@@ -2,12 +2,12 @@
 use Rattle.std.specs.Prelude.{◌≡◌, ◌≢◌, ℕ, ◌<◌, Option, Some, None, IfSome}
 use Rattle.std.specs.Option.{option_map}
 use Rattle.paxos_core_world.specs.declared.vote.Vote.{Vote}
-use Rattle.rooms_steps.specs.Act.{Act as CoreAct}
-use Rattle.rooms_steps.specs.Act.TheVariants as core_act
-use Rattle.rooms_steps.specs.PaxosCoreLawStep.{Step}
-use Rattle.rooms_steps.specs.PaxosCoreLawStep.TheVariants as step
-use Rattle.rooms_steps.specs.Proposer.{next_proposal}
-use Rattle.rooms_steps.specs.Would.{next_start, kept_by}
+use Rattle.paxos_core_law.specs.declared.step.Act.{Act as CoreAct}
+use Rattle.paxos_core_law.specs.declared.step.Act.TheVariants as core_act
+use Rattle.paxos_core_law.specs.declared.step.Step.{Step}
+use Rattle.paxos_core_law.specs.declared.step.Step.TheVariants as step
+use Rattle.paxos_core_law.specs.Proposer.{next_proposal}
+use Rattle.paxos_core_law.specs.Would.{next_start, kept_by}
 use Rattle.rooms_state.specs.declared.act.Act.{Act}
 use Rattle.rooms_state.specs.declared.act.Act.TheVariants as act
 use Rattle.rooms_state.specs.Did.{Did}

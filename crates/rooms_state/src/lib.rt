@@ -4,4 +4,3 @@
 
 pub mod act;
 
-pub use rooms_steps::{acceptor, proposer, rule, view};

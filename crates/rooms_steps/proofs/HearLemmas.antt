@@ -1,19 +1,19 @@
 -- What a node makes of an acceptor's word are steps of the protocol: the promise and the vote that it shows were sent.
 use Rattle.std.proofs.Common.{◌≡◌, ℕ, ◌<◌, Bool, true, false, cond, ◌&&◌, Option, Some, None, refl, sym, ap, ◌∙◌, subst, inl, inr, arith}
 use Rattle.std.proofs.lemmas.Bool.{and_parts, ltb-true, eqb-true}
-use Rattle.rooms_rule.specs.KeptPart.{vote}
-use Rattle.rooms_rule.specs.Quorum.{Sizes}
-use Rattle.rooms_rule.specs.World.{World, Has}
-use Rattle.rooms_rule.specs.Msg.TheVariants.{Promise, Accepted}
-use Rattle.rooms_rule.specs.Vote.{Vote}
-use Rattle.rooms_rule.specs.Invariant.{Invariant}
-use Rattle.rooms_rule.proofs.Theorem.{holds}
-use Rattle.rooms_rule.specs.Acceptor.{is_vote}
-use Rattle.rooms_rule.specs.Learner.{is_report, is_under_way, notes_promise, after_promise, notes_vote}
-use Rattle.rooms_rule.specs.NodeState.{NodeState}
-use Rattle.rooms_rule.specs.Reached.{IsReached}
-use Rattle.rooms_rule.specs.LateOffer.{BelongsWithLateOffer, TakesLate}
-use Rattle.rooms_rule.proofs.LateLemmas.{offers_may_be_late}
+use Rattle.paxos_core_world.specs.KeptPart.{vote}
+use Rattle.paxos_core_world.specs.Quorum.{Sizes}
+use Rattle.paxos_core_world.specs.World.{World, Has}
+use Rattle.paxos_core_world.specs.declared.msg.Msg.TheVariants.{Promise, Accepted}
+use Rattle.paxos_core_world.specs.declared.vote.Vote.{Vote}
+use Rattle.paxos_core_invariant.specs.Invariant.{Invariant}
+use Rattle.paxos_core_model.proofs.Theorem.{holds}
+use Rattle.paxos_core_law.specs.Acceptor.{is_vote}
+use Rattle.paxos_core_law.specs.Learner.{is_report, is_under_way, notes_promise, after_promise, notes_vote}
+use Rattle.paxos_core_law.specs.NodeState.{NodeState}
+use Rattle.paxos_core_law.specs.Reached.{IsReached}
+use Rattle.paxos_core_late_offers.specs.LateOffer.{BelongsWithLateOffer, TakesLate}
+use Rattle.paxos_core_late_offers.proofs.LateLemmas.{offers_may_be_late}
 use Rattle.rooms_rule.specs.Heard.{after_shown_vote, taken_on_vote, after_hearing, taken_by_hearing}
 
 pub invariant_of : (q : Sizes) (w : World) → IsReached q w → Invariant q w

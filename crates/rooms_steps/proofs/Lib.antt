@@ -3,13 +3,3 @@ pub mod HearLemmas
 pub mod Looks
 pub mod Stores
 pub mod Stays
-pub use Rattle.rooms_rule.proofs.Advance
-pub use Rattle.rooms_rule.proofs.Deal
-pub use Rattle.rooms_rule.proofs.RunLemmas
-pub use Rattle.rooms_rule.proofs.WordLemmas
-pub use Rattle.rooms_rule.proofs.LateLemmas
-pub use Rattle.rooms_rule.proofs.BallotLemmas
-pub use Rattle.rooms_rule.proofs.Theorem
-pub use Rattle.rooms_rule.proofs.WouldLemmas
-pub use Rattle.rooms_rule.proofs.LearnsLemmas
-pub use Rattle.rooms_rule.proofs.WorldLemmas

@@ -4,15 +4,15 @@ use Rattle.std.proofs.lemmas.List.{set-get_or}
 use mathlib.Core.Option.{none, some}
 use lib.ListN.{get_elem?}
 use Rattle.atomic_table.specs.Table.{State, Me, step, Allows}
-use Rattle.rooms_rule.specs.Run.{reached}
-use Rattle.rooms_rule.specs.Step.{Label, Learns}
-use Rattle.rooms_rule.specs.World.{World}
-use Rattle.rooms_rule.specs.Vote.{Vote}
-use Rattle.rooms_rule.specs.Learner.{after_promise}
-use Rattle.rooms_rule.specs.NodeState.{NodeState, restarted}
-use Rattle.rooms_rule.specs.Taken.{learns_from, taken_by_restart}
-use Rattle.rooms_rule.specs.LateOffer.{TakesLate}
-use Rattle.rooms_rule.proofs.LateLemmas.{offers_may_be_late}
+use Rattle.paxos_core_world.specs.Run.{reached}
+use Rattle.paxos_core_world.specs.Step.{Label, Learns}
+use Rattle.paxos_core_world.specs.World.{World}
+use Rattle.paxos_core_world.specs.declared.vote.Vote.{Vote}
+use Rattle.paxos_core_law.specs.Learner.{after_promise}
+use Rattle.paxos_core_law.specs.NodeState.{NodeState, restarted}
+use Rattle.paxos_core_law.specs.Taken.{learns_from, taken_by_restart}
+use Rattle.paxos_core_late_offers.specs.LateOffer.{TakesLate}
+use Rattle.paxos_core_late_offers.proofs.LateLemmas.{offers_may_be_late}
 use Rattle.rooms_rule.specs.Words.{promised_in, accepted_in}
 use Rattle.rooms_rule.specs.declared.view.Opening.{Opening}
 use Rattle.rooms_rule.specs.declared.view.View.{View}

@@ -3,29 +3,29 @@ use Rattle.std.proofs.Common.{◌≡◌, ℕ, ◌<◌, ◌≤◌, Bool, true, fa
 use Rattle.std.proofs.lemmas.Bool.{le-leb, eqb-true, eq-eqb, cond-true}
 use mathlib.Core.Option.{none}
 use Rattle.atomic_table.specs.Table.{Me, step, Allows}
-use Rattle.rooms_rule.specs.KeptPart.{KeptPart, with_promise, with_vote}
-use Rattle.rooms_rule.specs.Quorum.{Sizes}
-use Rattle.rooms_rule.specs.Run.{reached}
-use Rattle.rooms_rule.specs.Step.{Label, Offers, Starts, Promises, Proposes, Accepts}
-use Rattle.rooms_rule.specs.World.{World, Has}
-use Rattle.rooms_rule.specs.Msg.{Msg}
-use Rattle.rooms_rule.specs.Msg.TheVariants.{Prepare, Promise, Propose, Accepted}
-use Rattle.rooms_rule.specs.Vote.{Vote}
-use Rattle.rooms_rule.specs.Acceptor.{promises, accepts, after_prepare, after_propose}
-use Rattle.rooms_rule.specs.Belongs.{Belongs}
-use Rattle.rooms_rule.specs.Message.{reply, after_message}
-use Rattle.rooms_rule.specs.NodeState.{NodeState, offered}
-use Rattle.rooms_rule.specs.Proposer.{next_ballot, started, choice, may_propose, proposal_under, next_proposal, propose_message, proposal, after_answer, after_proposal}
-use Rattle.rooms_rule.specs.Notes.{highest_below}
-use Rattle.rooms_rule.specs.Reached.{IsReached}
-use Rattle.rooms_rule.specs.Taken.{taken_by_start, proposes, taken_by_propose, taken_on}
-use Rattle.rooms_rule.specs.Takes.{AreStepsOf}
-use Rattle.rooms_rule.specs.Would.{after_act, taken_by_act}
-use Rattle.rooms_rule.specs.Act.{Act}
-use Rattle.rooms_rule.specs.Act.TheVariants as act
-use Rattle.rooms_rule.proofs.WorldLemmas.{grows_by}
-use Rattle.rooms_rule.specs.LateOffer.{unoffered, BelongsWithLateOffer, TakesLate, owes_offer, taken_late_by_propose}
-use Rattle.rooms_rule.proofs.LateLemmas.{offers_may_be_late}
+use Rattle.paxos_core_world.specs.KeptPart.{KeptPart, with_promise, with_vote}
+use Rattle.paxos_core_world.specs.Quorum.{Sizes}
+use Rattle.paxos_core_world.specs.Run.{reached}
+use Rattle.paxos_core_world.specs.Step.{Label, Offers, Starts, Promises, Proposes, Accepts}
+use Rattle.paxos_core_world.specs.World.{World, Has}
+use Rattle.paxos_core_world.specs.declared.msg.Msg.{Msg}
+use Rattle.paxos_core_world.specs.declared.msg.Msg.TheVariants.{Prepare, Promise, Propose, Accepted}
+use Rattle.paxos_core_world.specs.declared.vote.Vote.{Vote}
+use Rattle.paxos_core_law.specs.Acceptor.{promises, accepts, after_prepare, after_propose}
+use Rattle.paxos_core_law.specs.Belongs.{Belongs}
+use Rattle.paxos_core_law.specs.Message.{reply, after_message}
+use Rattle.paxos_core_law.specs.NodeState.{NodeState, offered}
+use Rattle.paxos_core_law.specs.Proposer.{next_ballot, started, choice, may_propose, proposal_under, next_proposal, propose_message, proposal, after_answer, after_proposal}
+use Rattle.paxos_core_law.specs.Notes.{highest_below}
+use Rattle.paxos_core_law.specs.Reached.{IsReached}
+use Rattle.paxos_core_law.specs.Taken.{taken_by_start, proposes, taken_by_propose, taken_on}
+use Rattle.paxos_core_law.specs.Takes.{AreStepsOf}
+use Rattle.paxos_core_law.specs.Would.{after_act, taken_by_act}
+use Rattle.paxos_core_law.specs.declared.step.Act.{Act}
+use Rattle.paxos_core_law.specs.declared.step.Act.TheVariants as act
+use Rattle.paxos_core_law.proofs.WorldLemmas.{grows_by}
+use Rattle.paxos_core_late_offers.specs.LateOffer.{unoffered, BelongsWithLateOffer, TakesLate, owes_offer, taken_late_by_propose}
+use Rattle.paxos_core_late_offers.proofs.LateLemmas.{offers_may_be_late}
 use Rattle.rooms_rule.specs.Words.{promised_in, accepted_in, IsProposerWord, IsAcceptorWord}
 use Rattle.rooms_rule.specs.declared.event.Event.{Event}
 use Rattle.rooms_rule.specs.declared.view.Opening.{Opening}

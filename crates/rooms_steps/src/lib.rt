@@ -2,6 +2,3 @@
 //! seats saw of the words. Lemmas alone, on which the calls of a seat stand.
 #![tactic(auto)]
 
-pub use rooms_rule::{
-    CoreError, Kept, Msg, Node, Quorums, Step, Vote, acceptor, proposer, rule, settled, view,
-};

@@ -5,8 +5,8 @@ use native.Mathlib.Decide.{ℕ_discrete}
 use mathlib.Core.Option.{some, some-injective, some-ne-none}
 use lib.ListN.{get_elem?}
 use Rattle.atomic_table.specs.Table as table
-use Rattle.rooms_rule.specs.KeptPart.{KeptPart}
-use Rattle.rooms_rule.specs.World.{nodes_of}
+use Rattle.paxos_core_world.specs.KeptPart.{KeptPart}
+use Rattle.paxos_core_world.specs.World.{nodes_of}
 use Rattle.rooms_rule.specs.Deal.{dealing, nobody}
 use Rattle.rooms_rule.specs.Rule.{RoomRule}
 use Rattle.rooms_rule.specs.Words.{IsProposerWord, IsAcceptorWord}

@@ -1,9 +1,9 @@
 -- The words with which a family of rooms opens.
 use Rattle.std.specs.Prelude.{◌≡◌, ℕ, ◌/◌, ◌%◌, ◌<◌, ◌≤◌, List, length}
-use Rattle.rooms_rule.specs.KeptPart.{KeptPart}
-use Rattle.rooms_rule.specs.Quorum.{AreQuorums}
-use Rattle.rooms_rule.specs.Settled.{Settled}
-use Rattle.rooms_rule.specs.World.{nodes_of}
+use Rattle.paxos_core_world.specs.KeptPart.{KeptPart}
+use Rattle.paxos_core_world.specs.Quorum.{AreQuorums}
+use Rattle.paxos_core_world.specs.Settled.{Settled}
+use Rattle.paxos_core_world.specs.World.{nodes_of}
 use Rattle.rooms_rule.specs.WordsOf.{ShowsKept}
 use Rattle.rooms_table.specs.Family.{count_of, opening_in}
 use Rattle.rooms_table.specs.declared.view.Openings.{Openings}

@@ -1,10 +1,10 @@
 -- The reading of RTL is a form: each spelling is read again, and nothing else is read.
 use Rattle.std.proofs.Common.{◌≡◌, ℕ, ◌<◌, ◌≤◌, ◌^◌, List, [], ◌++◌, length, Option, Ok, refl, arith}
 use Rattle.std.specs.List.{AllByRecursion, flat_map}
-use Rattle.rtl_parts.specs.LangBaseReading.{byte, both, follow}
+use Rattle.lang_base.specs.Reading.{byte, both, follow}
 use Rattle.lang_base.proofs.Forms.{IsForm}
-use Rattle.rtl_parts.specs.Graphs.{node}
-use Rattle.rtl_parts.specs.Limits.{function_number}
+use Rattle.lang_parts.specs.Graphs.{node}
+use Rattle.lang_parts.specs.Limits.{function_number}
 use Rattle.lang_parts.proofs.Limits.{function_number_form}
 use Rattle.lang_parts.proofs.Graphs.{node_form, TwoNodesFit, two_nodes_form, AllNodesFit, GraphFits, nodes_form, graph_of_form}
 use Rattle.lang_base.proofs.Parts.{byte_form, made_takes, made_again, made_form, fits_form, both_form}

@@ -1,10 +1,10 @@
 -- From one bound to the next the output of a program only grows, and an end or a fault stays.
 use Rattle.std.proofs.Common.{ℕ, List, [], ◌∷◌, Option, Some, None, Bool, true, false, cond, length, sym}
 use Rattle.std.specs.Prelude.{slice_get, ◌==◌, map}
-use Rattle.rtl_parts.specs.Behaviour.{IsRun}
-use Rattle.rtl_parts.specs.Machine.{Goes, Fails, Grows}
-use Rattle.rtl_parts.specs.Named.{Named}
-use Rattle.rtl_parts.specs.Program.{Program}
+use Rattle.lang_base.specs.Behaviour.{IsRun}
+use Rattle.lang_base.specs.Machine.{Goes, Fails, Grows}
+use Rattle.lang_base.specs.declared.program.Named.{Named}
+use Rattle.lang_base.specs.declared.program.Program.{Program}
 use Rattle.lang_base.proofs.Beginnings.{IsBeginningOf-refl, IsBeginningOf-same}
 use Rattle.lang_parts.proofs.Growth.{PrintsOn, prints_grow}
 use Rattle.lang_base.proofs.Simulation.{shows_is_run}

@@ -6,24 +6,3 @@ pub mod Spelling
 pub mod Reading
 pub mod Forms
 pub mod Equal
-pub use Rattle.rtl_parts.specs.Data
-pub use Rattle.rtl_parts.specs.Acts
-pub use Rattle.rtl_parts.specs.Fits
-pub use Rattle.rtl_parts.specs.Machine
-pub use Rattle.rtl_parts.specs.declared.act.Act
-pub use Rattle.rtl_parts.specs.MachineFrames
-pub use Rattle.rtl_parts.specs.MachineTable
-pub use Rattle.rtl_parts.specs.declared.arguments.Arguments
-pub use Rattle.rtl_parts.specs.declared.test.Test
-pub use Rattle.rtl_parts.specs.Spelling as RtlPartsSpelling
-pub use Rattle.rtl_parts.specs.Keeps
-pub use Rattle.rtl_parts.specs.LangBaseReading
-pub use Rattle.rtl_parts.specs.Soundness
-pub use Rattle.rtl_parts.specs.Texts
-pub use Rattle.rtl_parts.specs.Fault
-pub use Rattle.rtl_parts.specs.Global
-pub use Rattle.rtl_parts.specs.Named
-pub use Rattle.rtl_parts.specs.Program
-pub use Rattle.rtl_parts.specs.Shown
-pub use Rattle.rtl_parts.specs.Reading as RtlPartsReading
-pub use Rattle.rtl_parts.specs.contracts.arguments.ArgumentsPartialEq

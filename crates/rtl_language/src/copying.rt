@@ -4,7 +4,8 @@ ghost use Rattle.std.specs.Prelude.{◌≡◌, IfOk};
 
 use crate::function::Function;
 use crate::instruction::Instruction;
-use rtl_parts::{CopyOne, NoMemory, Row, copy_each};
+use lang_parts::{CopyOne, copy_each};
+use lang_base::{NoMemory, Row};
 use std::alloc::Global;
 
 /// An equal instruction.

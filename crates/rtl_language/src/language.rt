@@ -2,15 +2,16 @@ use crate::copying::copy_function;
 use crate::function::Function;
 use crate::reading::read_function;
 use crate::writing::push_function;
-use rtl_parts::{Form, FormError, Language, NoMemory, read_front, write_whole};
+use lang_parts::{Form, read_front, write_whole};
+use lang_base::{FormError, Language, NoMemory};
 use std::alloc::Global;
 
 /// RTL, the second language of the pipeline.
 pub struct Rtl;
 
 impl Form for Rtl {
-    ghost use Rattle.rtl_parts.specs.LangBaseReading.{Reads};
-    ghost use Rattle.rtl_parts.specs.Texts.{Appends};
+    ghost use Rattle.lang_base.specs.Reading.{Reads};
+    ghost use Rattle.lang_base.specs.Texts.{Appends};
     ghost use Rattle.rtl_language.specs.Forms.{function_form};
     ghost use Rattle.rtl_language.specs.Function.{IsFunction};
     ghost use Rattle.rtl_language.specs.Reading.{function};

@@ -14,8 +14,3 @@ pub use copying::copy_instruction;
 pub use function::Function;
 pub use instruction::Instruction;
 pub use language::Rtl;
-pub use rtl_parts::{
-    Act, Arguments, Fault, FormError, NoMemory, ReadOne, Register, Row, Test, WriteOne,
-    push_arguments, push_each, push_u16, read_arguments, read_register, read_so_many, read_u16,
-    read_u16_below,
-};

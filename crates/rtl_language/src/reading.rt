@@ -1,16 +1,15 @@
 //! Readers of the parts of a function. Each is one function on lists, which says the value and the
 //! bytes behind it, or the first fault.
 
-ghost use Rattle.rtl_parts.specs.LangBaseReading.{IsRead, Reads, items_of};
+ghost use Rattle.lang_base.specs.Reading.{IsRead, Reads, items_of};
 ghost use Rattle.rtl_parts.specs.Reading.{register};
 ghost use Rattle.rtl_language.specs.Reading.{call_arguments, call, branch, plain, instruction, nodes, graph, parts, function};
 
 use crate::function::Function;
 use crate::instruction::Instruction;
-use rtl_parts::{
-    FormError, ReadOne, Register, Row, are_bytes, read_act, read_byte, read_ends, read_frame,
-    read_function_number, read_node, read_register, read_so_many, read_target, read_test,
-};
+use lang_base::{FormError, Row, read_byte};
+use lang_parts::{ReadOne, are_bytes, read_ends, read_function_number, read_node, read_so_many};
+use rtl_parts::{Register, read_act, read_frame, read_register, read_target, read_test};
 use std::alloc::Global;
 
 /// Reads registers of so many.

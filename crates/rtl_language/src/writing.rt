@@ -1,7 +1,7 @@
 //! Writers of the parts of a function: each appends the text.
 
 ghost use Rattle.std.specs.Prelude.{◌≤◌, length};
-ghost use Rattle.rtl_parts.specs.Texts.{Appends};
+ghost use Rattle.lang_base.specs.Texts.{Appends};
 ghost use Rattle.rtl_parts.specs.Fits.{argument_limit};
 ghost use Rattle.rtl_language.specs.declared.instruction.Instruction.TheVariants.{Call, Branch};
 ghost use Rattle.rtl_language.specs.Function.{HasShortList};
@@ -9,10 +9,9 @@ ghost use Rattle.rtl_language.specs.Spelling.{instruction_text, spelling};
 
 use crate::function::Function;
 use crate::instruction::Instruction;
-use rtl_parts::{
-    NoMemory, Register, Test, WriteOne, push_act, push_byte, push_each, push_frame, push_registers,
-    push_target, push_test, push_u16,
-};
+use lang_base::{NoMemory, push_byte, push_u16};
+use rtl_parts::{Register, Test, push_act, push_frame, push_registers, push_target, push_test};
+use lang_parts::{WriteOne, push_each};
 
 /// A call: the function, the arguments, the target, and the successor.
 fn push_call(

@@ -3,10 +3,10 @@ use Rattle.std.proofs.Common.{◌≡◌, ℕ, true, false, Option, Some, None, r
 use Rattle.std.specs.Prelude.{nat_eq}
 use Rattle.std.proofs.lemmas.Bool.{eqb-true, and_parts, false≢true}
 use denote.Enum.Bare.{same_true}
-use Rattle.machine.specs.Op as op_type
-use Rattle.machine.specs.Cond as cond_type
-use Rattle.machine.specs.OpPartialEq.TheImpl as op_eq
-use Rattle.machine.specs.CondPartialEq.TheImpl as cond_eq
+use Rattle.ints.specs.contracts.operators.Op as op_type
+use Rattle.ints.specs.contracts.conditions.Cond as cond_type
+use Rattle.ints.specs.contracts.operators.OpPartialEq.TheImpl as op_eq
+use Rattle.ints.specs.contracts.conditions.CondPartialEq.TheImpl as cond_eq
 pub use Rattle.machine.proofs.Equal.{Tells, tells_decides}
 use Rattle.rtl_parts.specs.declared.arguments.Arguments.TheVariants.{One, Two}
 use Rattle.rtl_parts.specs.declared.act.Act.TheVariants.{Nop, Constant, Move, Operate, Load, Store, Put}

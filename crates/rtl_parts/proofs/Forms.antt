@@ -4,16 +4,16 @@ use Rattle.std.specs.Prelude.{◌⊎◌, IfSome, not, nat_le, nat_eq}
 use Rattle.std.specs.Int.{w16, w32, to_be_bytes}
 use Rattle.std.specs.List.{AllByRecursion, list_any, list_all}
 use Rattle.std.proofs.lemmas.Bool.{eqb-true, eq-eqb, ltb-true, lt-ltb, leb-true, le-leb, and_parts, and_from, not-true, not_from_false}
-use Rattle.machine.specs.FormError.TheVariants.{NotCanonical, TooLarge}
-use Rattle.machine.specs.LangBaseReading.{byte, number, decoded, up_to, both, unknown}
-use Rattle.machine.specs.Texts.{EachFits}
+use Rattle.lang_base.specs.declared.errors.FormError.TheVariants.{NotCanonical, TooLarge}
+use Rattle.lang_base.specs.Reading.{byte, number, decoded, up_to, both, unknown}
+use Rattle.lang_base.specs.Texts.{EachFits}
 use Rattle.lang_base.proofs.Forms.{IsForm, Takes, ok_is}
 use Rattle.lang_base.proofs.Parts.{byte_form, number16_form, number32_form, made_takes, made_again, made_form, tested_form, decoded_form, fits_form, below_form, up_to_form, both_form}
 use Rattle.lang_base.proofs.Lists.{counted_form, fits_each, HasCode, TakesBehind, unknown_takes, follow_form, optional_form}
-use Rattle.machine.specs.IntsOp.{Op}
-use Rattle.machine.specs.IntsCond.{Cond}
-use Rattle.machine.specs.Codes.{code_of, op_of_code, argument_count_of}
-use Rattle.machine.specs.Conditions.{cond_code_of, cond_of_code, cond_argument_count_of}
+use Rattle.ints.specs.declared.operators.Op.{Op}
+use Rattle.ints.specs.declared.conditions.Cond.{Cond}
+use Rattle.ints.specs.Codes.{code_of, op_of_code, argument_count_of}
+use Rattle.ints.specs.Conditions.{cond_code_of, cond_of_code, cond_argument_count_of}
 use Rattle.ints.proofs.Codes.{codes_lead_back}
 use Rattle.ints.proofs.CondCodes.{cond_codes_lead_back}
 use Rattle.machine.specs.Fits.{AreDistinct}
@@ -23,7 +23,7 @@ use Rattle.rtl_parts.specs.declared.arguments.Arguments.{Arguments}
 use Rattle.rtl_parts.specs.declared.arguments.Arguments.TheVariants.{One, Two}
 use Rattle.rtl_parts.specs.declared.act.Act.{Act}
 use Rattle.rtl_parts.specs.declared.act.Act.TheVariants.{Nop, Constant, Move, Operate, Load, Store, Put}
-use Rattle.machine.specs.Limits.{global}
+use Rattle.lang_parts.specs.Limits.{global}
 use Rattle.machine.proofs.Limits.{global_form}
 use Rattle.rtl_parts.specs.Fits.{parameter_limit, register_limit, RegisterFits, TargetFits, GlobalFits, ArgumentsFit, ActFits, TestFits, ParametersFit}
 use Rattle.rtl_parts.specs.Spelling.{byte_text, register_text, registers_text, target_text, arguments_text, test_text, act_code, act_body, frame_text}

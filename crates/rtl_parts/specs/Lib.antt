@@ -3,18 +3,3 @@ pub mod Acts
 pub mod Fits
 pub mod Spelling
 pub mod Reading
-pub use Rattle.machine.specs.Frames as MachineFrames
-pub use Rattle.machine.specs.MachineTable
-pub use Rattle.machine.specs.Graphs
-pub use Rattle.machine.specs.Limits
-pub use Rattle.machine.specs.Behaviour
-pub use Rattle.machine.specs.Machine
-pub use Rattle.machine.specs.LangBaseReading
-pub use Rattle.machine.specs.Texts
-pub use Rattle.machine.specs.Global
-pub use Rattle.machine.specs.Named
-pub use Rattle.machine.specs.Program
-pub use Rattle.machine.specs.Keeps
-pub use Rattle.machine.specs.Soundness
-pub use Rattle.machine.specs.Fault
-pub use Rattle.machine.specs.Shown

@@ -2,16 +2,16 @@
 use Rattle.std.specs.Prelude.{ℕ, Bool, not, List, [], ◌∷◌, Option, Ok, nat_lt, nat_le, nat_eq, ◌==◌, if◌then◌else◌}
 use Rattle.std.specs.Int.{w16, w32}
 use Rattle.std.specs.List.{list_any, list_all}
-use Rattle.machine.specs.FormError.TheVariants.{NotCanonical, TooLarge}
-use Rattle.machine.specs.LangBaseReading.{Reading, byte, number, made, tested, decoded, below, up_to, both, counted, Table, follow, unknown, optional}
-use Rattle.machine.specs.Codes.{op_of_code, argument_count_of}
-use Rattle.machine.specs.Conditions.{cond_of_code, cond_argument_count_of}
+use Rattle.lang_base.specs.declared.errors.FormError.TheVariants.{NotCanonical, TooLarge}
+use Rattle.lang_base.specs.Reading.{Reading, byte, number, made, tested, decoded, below, up_to, both, counted, Table, follow, unknown, optional}
+use Rattle.ints.specs.Codes.{op_of_code, argument_count_of}
+use Rattle.ints.specs.Conditions.{cond_of_code, cond_argument_count_of}
 use Rattle.rtl_parts.specs.declared.arguments.Arguments.{Arguments}
 use Rattle.rtl_parts.specs.declared.arguments.Arguments.TheVariants.{One, Two}
 use Rattle.rtl_parts.specs.declared.act.Act.{Act}
 use Rattle.rtl_parts.specs.declared.act.Act.TheVariants.{Nop, Constant, Move, Operate, Load, Store, Put}
 use Rattle.rtl_parts.specs.declared.test.Test.{Test}
-use Rattle.machine.specs.Limits.{global}
+use Rattle.lang_parts.specs.Limits.{global}
 use Rattle.rtl_parts.specs.Fits.{parameter_limit, register_limit}
 
 -- one of so many registers

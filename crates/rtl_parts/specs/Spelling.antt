@@ -1,9 +1,9 @@
 -- The bytes of the parts of a function.
 use Rattle.std.specs.Prelude.{ℕ, List, [], ◌∷◌, ◌++◌, Option}
 use Rattle.std.specs.Int.{w16, w32, to_be_bytes}
-use Rattle.machine.specs.Texts.{optional_text, counted_text}
-use Rattle.machine.specs.Codes.{code_of}
-use Rattle.machine.specs.Conditions.{cond_code_of}
+use Rattle.lang_base.specs.Texts.{optional_text, counted_text}
+use Rattle.ints.specs.Codes.{code_of}
+use Rattle.ints.specs.Conditions.{cond_code_of}
 use Rattle.rtl_parts.specs.declared.arguments.Arguments.{Arguments}
 use Rattle.rtl_parts.specs.declared.arguments.Arguments.TheVariants.{One, Two}
 use Rattle.rtl_parts.specs.declared.act.Act.{Act}

@@ -1,6 +1,6 @@
 use crate::arguments::Arguments;
 use crate::register::Register;
-use machine::Op;
+use ints::Op;
 
 /// An instruction that goes on to what follows it, within its function (Leroy 2009, section 3.2).
 /// Globals are meant by number, and their cells by the word of a register.

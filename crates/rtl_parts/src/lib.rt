@@ -11,11 +11,6 @@ mod writing;
 
 pub use act::Act;
 pub use arguments::Arguments;
-pub use machine::{
-    CopyOne, Fault, Form, FormError, Language, NoMemory, ReadOne, Row, WriteOne, are_bytes,
-    copy_each, push_byte, push_each, push_u16, read_byte, read_ends, read_front,
-    read_function_number, read_node, read_so_many, read_u16, read_u16_below, write_whole,
-};
 pub use reading::{read_act, read_arguments, read_frame, read_register, read_target, read_test};
 pub use register::Register;
 pub use test::Test;

@@ -3,17 +3,16 @@
 
 ghost use Rattle.std.specs.Prelude.{◌≡◌};
 ghost use Rattle.std.specs.List.{list_all};
-ghost use Rattle.machine.specs.LangBaseReading.{IsRead, Reads, items_of};
+ghost use Rattle.lang_base.specs.Reading.{IsRead, Reads, items_of};
 ghost use Rattle.rtl_parts.specs.Reading.{register, target, arguments, asked, constant, copying, operation, load, store, put, act, parameter, parameters, lies_within, frame};
 
 use crate::act::Act;
 use crate::arguments::Arguments;
 use crate::register::Register;
 use crate::test::Test;
-use machine::{
-    Cond, FormError, Op, ReadOne, Row, read_byte, read_count, read_global, read_so_many, read_u16,
-    read_u16_below, read_u32,
-};
+use ints::{Cond, Op};
+use lang_base::{FormError, Row, read_byte, read_count, read_u16, read_u16_below, read_u32};
+use lang_parts::{ReadOne, read_global, read_so_many};
 use std::alloc::Global;
 
 /// One of so many registers.

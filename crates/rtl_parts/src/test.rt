@@ -1,5 +1,5 @@
 use crate::arguments::Arguments;
-use machine::Cond;
+use ints::Cond;
 
 /// What a branch asks.
 #[derive(Clone, Copy, PartialEq, Eq)]

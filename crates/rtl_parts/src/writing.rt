@@ -1,7 +1,7 @@
 //! Writers of the parts of a function: each appends the text.
 
 ghost use Rattle.std.specs.Prelude.{◌≡◌, ◌≤◌, ◌∷◌, ◌++◌, length};
-ghost use Rattle.machine.specs.Texts.{Appends};
+ghost use Rattle.lang_base.specs.Texts.{Appends};
 ghost use Rattle.rtl_parts.specs.Fits.{parameter_limit, argument_limit};
 ghost use Rattle.rtl_parts.specs.Spelling.{register_text, three_text, registers_text, target_text, arguments_text, test_text, act_code, act_body, frame_text};
 
@@ -9,7 +9,8 @@ use crate::act::Act;
 use crate::arguments::Arguments;
 use crate::register::Register;
 use crate::test::Test;
-use machine::{Half, NoMemory, push_byte, push_each, push_u16, push_u32};
+use lang_parts::{Half, push_each};
+use lang_base::{NoMemory, push_byte, push_u16, push_u32};
 
 /// The registers of a list, behind their number.
 pub fn push_registers(out: &mut Vec<u8>, registers: &[Register]) -> Result<(), NoMemory>

@@ -3,13 +3,13 @@ use Rattle.std.proofs.Common.{◌≡◌, ◌≢◌, ℕ, zero, suc, List, [], �
 use Rattle.std.specs.Prelude.{slice_get, ◌==◌, replicate}
 use Rattle.std.specs.List.{AllByRecursion}
 use Rattle.std.proofs.lemmas.List.{length-replicate}
-use Rattle.rtl_language.specs.Machine.{Next, Goes, Ends, Fails, showing, shows, Leads, Matches}
-use Rattle.rtl_language.specs.Named.{Named}
-use Rattle.rtl_language.specs.Soundness.{AcceptedInTurn}
-use Rattle.rtl_language.specs.Shown.TheVariants as shown
+use Rattle.lang_base.specs.Machine.{Next, Goes, Ends, Fails, showing, shows, Leads, Matches}
+use Rattle.lang_base.specs.declared.program.Named.{Named}
+use Rattle.lang_base.specs.Soundness.{AcceptedInTurn}
+use Rattle.lang_base.specs.declared.shown.Shown.TheVariants as shown
 use Rattle.lang_base.proofs.Simulation.{leads-step}
-use Rattle.rtl_language.specs.Data.{Data}
-use Rattle.rtl_language.specs.Acts.{does, holds}
+use Rattle.rtl_parts.specs.Data.{Data}
+use Rattle.rtl_parts.specs.Acts.{does, holds}
 use Rattle.rtl_language.specs.declared.instruction.Instruction.{Instruction}
 use Rattle.rtl_language.specs.declared.instruction.Instruction.TheVariants.{Do, Call, Branch, Return}
 use Rattle.rtl_language.specs.Function.{FunctionData}

@@ -3,15 +3,15 @@ use Rattle.std.proofs.Common.{◌≡◌, ℕ, suc, List, [], ◌∷◌, length, 
 use Rattle.std.specs.Prelude.{slice_get, ◌==◌, codes, replicate}
 use Rattle.std.specs.Str.{bytes_eq}
 use Rattle.std.proofs.lemmas.List.{length-replicate}
-use Rattle.rtl_language.specs.Keeps.{Keeps}
-use Rattle.rtl_language.specs.Machine.{showing, shows}
-use Rattle.rtl_language.specs.Global.{Global}
-use Rattle.rtl_language.specs.Named.{Named}
-use Rattle.rtl_language.specs.Program.{Program}
-use Rattle.rtl_language.specs.Soundness.{Accepted, AcceptedInTurn}
+use Rattle.lang_base.specs.Keeps.{Keeps}
+use Rattle.lang_base.specs.Machine.{showing, shows}
+use Rattle.lang_base.specs.declared.program.Global.{Global}
+use Rattle.lang_base.specs.declared.program.Named.{Named}
+use Rattle.lang_base.specs.declared.program.Program.{Program}
+use Rattle.lang_base.specs.Soundness.{Accepted, AcceptedInTurn}
 use Rattle.lang_base.proofs.Simulation.{keeps-matches}
-use Rattle.rtl_language.specs.MachineFrames.{main_number}
-use Rattle.rtl_language.specs.Data.{Data}
+use Rattle.machine.specs.Frames.{main_number}
+use Rattle.rtl_parts.specs.Data.{Data}
 use Rattle.rtl_language.specs.Function.{FunctionData}
 use Rattle.rtl_language.specs.Frames.{State, printed}
 use Rattle.rtl_language.specs.Meaning.{function_step, next, takes_none, begins, run}

@@ -4,8 +4,8 @@ use Rattle.std.specs.Prelude.{◌↔◌, is_some, replicate, slice_index_or}
 use Rattle.std.specs.Option.{option_map}
 use Rattle.std.proofs.lemmas.Bool.{both_ways, not-true, not-false, cases_lt}
 use Rattle.std.proofs.lemmas.List.{get_or-replicate, get_or_past, length-replicate}
-use Rattle.rtl_language.specs.Fault.{Fault}
-use Rattle.rtl_language.specs.Fault.TheVariants.{Shape, Node}
+use Rattle.lang_base.specs.declared.fault.Fault.{Fault}
+use Rattle.lang_base.specs.declared.fault.Fault.TheVariants.{Shape, Node}
 use Rattle.rtl_passes.specs.Faults.{KeepsRules, TellsLowest, TellsFault}
 
 module _ (Form : Type 0) (Right : ℕ → Type 0) (count : ℕ) where

@@ -1,7 +1,7 @@
 -- What is said of an output: its form first, and then the lowest node that breaks a rule.
 use Rattle.std.specs.Prelude.{ℕ, ◌<◌, Option, Some, None}
-use Rattle.rtl_language.specs.Fault.{Fault}
-use Rattle.rtl_language.specs.Fault.TheVariants.{Shape, Node}
+use Rattle.lang_base.specs.declared.fault.Fault.{Fault}
+use Rattle.lang_base.specs.declared.fault.Fault.TheVariants.{Shape, Node}
 
 -- the form is kept, and the rules at each of so many nodes
 pub record KeepsRules (Form : Type 0) (Right : ℕ → Type 0) (count : ℕ) : Type 0 where

@@ -2,8 +2,8 @@
 use Rattle.std.proofs.Common.{◌≡◌, ℕ, ◌<◌, ◌^◌, List, [], length}
 use Rattle.std.specs.Int.{w16, to_be_bytes}
 use Rattle.std.specs.List.{AllByRecursion, flat_map}
-use Rattle.rtl_language.specs.LangBaseReading.{Reading, number, more, counted}
-use Rattle.rtl_language.specs.Texts.{counted_text}
+use Rattle.lang_base.specs.Reading.{Reading, number, more, counted}
+use Rattle.lang_base.specs.Texts.{counted_text}
 use Rattle.lang_base.proofs.Forms.{IsForm}
 use Rattle.lang_base.proofs.Parts.{number16_form, fits_form}
 use Rattle.lang_base.proofs.Lists.{counted_form, more_form, each_fits, fits_each}

@@ -1,6 +1,6 @@
 ghost use Rattle.std.specs.Prelude.{◌≡◌, [], replicate, IfOk};
 
-use rtl_language::{NoMemory, Row};
+use lang_base::{NoMemory, Row};
 use std::alloc::Global;
 
 /// An empty list for each of so many nodes.

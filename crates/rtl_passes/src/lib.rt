@@ -10,10 +10,5 @@ mod shape;
 
 pub use empty::empty_lists;
 pub use nodes::with_nodes;
-pub use rtl_language::{
-    Act, Arguments, Fault, FormError, Function, Instruction, NoMemory, ReadOne, Register, Row, Rtl,
-    Test, WriteOne, push_arguments, push_each, push_u16, read_arguments, read_register,
-    read_so_many, read_u16, read_u16_below,
-};
 pub use same::is_same;
 pub use shape::has_same_shape;

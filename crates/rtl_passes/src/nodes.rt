@@ -1,7 +1,8 @@
 ghost use Rattle.std.specs.Prelude.{◌≡◌, All, length, IfOk};
 ghost use Rattle.rtl_language.specs.Function.{InstructionFits};
 
-use rtl_language::{Function, Instruction, NoMemory, Row};
+use rtl_language::{Function, Instruction};
+use lang_base::{NoMemory, Row};
 use std::alloc::Global;
 
 /// The function with these instructions, which are in range and as many as its own.

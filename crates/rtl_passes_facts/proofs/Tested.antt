@@ -2,15 +2,15 @@
 use Rattle.std.proofs.Common.{◌≡◌, ℕ, ◌+◌, ◌<◌, List, [], length, replicate, Option, Some, sym, ap, ◌∙◌, subst, arith, inl, inr}
 use Rattle.std.specs.Prelude.{◌↔◌, All, slice_get}
 use Rattle.std.proofs.lemmas.Bool.{cases_eq}
-use Rattle.rtl_passes_filled.specs.Instruction.{Instruction}
-use Rattle.rtl_passes_filled.specs.Function.{FunctionData}
-use Rattle.rtl_passes_filled.specs.Faults.{IsLowest}
-use Rattle.rtl_passes_filled.specs.NodeRow.{NodeRow}
-use Rattle.rtl_passes_filled.specs.Ranked.{RiseFrom}
-use Rattle.rtl_passes_filled.specs.Edges.{edges_of}
-use Rattle.rtl_passes_filled.specs.Marks.{AreFeeders}
-use Rattle.rtl_passes_filled.specs.Rows.{place_of}
-use Rattle.rtl_passes_filled.specs.Handing.{spread_on, standing, left_by, handed_on}
+use Rattle.rtl_language.specs.declared.instruction.Instruction.{Instruction}
+use Rattle.rtl_language.specs.Function.{FunctionData}
+use Rattle.rtl_passes.specs.Faults.{IsLowest}
+use Rattle.rtl_passes_marks.specs.declared.row.NodeRow.{NodeRow}
+use Rattle.rtl_passes_marks.specs.Ranked.{RiseFrom}
+use Rattle.rtl_passes_marks.specs.Edges.{edges_of}
+use Rattle.rtl_passes_marks.specs.Marks.{AreFeeders}
+use Rattle.rtl_passes_marks.specs.Rows.{place_of}
+use Rattle.rtl_passes_marks.specs.Handing.{spread_on, standing, left_by, handed_on}
 use Rattle.rtl_passes_filled.specs.Rules.{RulesOf, facts_at, IsRightAs, IsRightAt}
 use Rattle.rtl_passes_filled.specs.Filled.{behind, filled_in}
 use Rattle.rtl_passes_filled.proofs.Marked.{AreCarried}

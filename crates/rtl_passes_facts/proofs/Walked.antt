@@ -4,15 +4,15 @@ use Rattle.std.specs.Prelude.{◌↔◌, All, Contains, slice_get}
 use Rattle.std.proofs.lemmas.Bool.{cases_lt, cases_eq, eq-eqb, ne_eqb}
 use Rattle.std.proofs.lemmas.List.{get_or_past, get_or-replicate, length-replicate}
 use Rattle.std.proofs.lemmas.Option.{slice_get_within}
-use Rattle.rtl_passes_filled.specs.Instruction.{Instruction}
-use Rattle.rtl_passes_filled.specs.NodeRow.{NodeRow}
-use Rattle.rtl_passes_filled.specs.Ranked.{RiseFrom}
-use Rattle.rtl_passes_filled.specs.Edges.{edges_of}
-use Rattle.rtl_passes_filled.specs.Marks.{feeder, AreFeeders}
-use Rattle.rtl_passes_filled.specs.Rows.{place_of}
-use Rattle.rtl_passes_filled.specs.Handing.{spread_on, is_fed_by, standing, left_by, feeds_by, handed_on, IsMarkedBy}
-use Rattle.rtl_passes_filled.proofs.Fed.{feeder_lower, feeder_edge}
-use Rattle.rtl_passes_filled.proofs.Handings.{spread_at, left_count, left_other, handed_count, handed_else, handed_here}
+use Rattle.rtl_language.specs.declared.instruction.Instruction.{Instruction}
+use Rattle.rtl_passes_marks.specs.declared.row.NodeRow.{NodeRow}
+use Rattle.rtl_passes_marks.specs.Ranked.{RiseFrom}
+use Rattle.rtl_passes_marks.specs.Edges.{edges_of}
+use Rattle.rtl_passes_marks.specs.Marks.{feeder, AreFeeders}
+use Rattle.rtl_passes_marks.specs.Rows.{place_of}
+use Rattle.rtl_passes_marks.specs.Handing.{spread_on, is_fed_by, standing, left_by, feeds_by, handed_on, IsMarkedBy}
+use Rattle.rtl_passes_marks.proofs.Fed.{feeder_lower, feeder_edge}
+use Rattle.rtl_passes_marks.proofs.Handings.{spread_at, left_count, left_other, handed_count, handed_else, handed_here}
 use Rattle.rtl_passes_filled.specs.Rules.{RulesOf, facts_at, LeadsTo, IsRightAs}
 use Rattle.rtl_passes_filled.specs.Filled.{behind, filled}
 use Rattle.rtl_passes_filled.proofs.Filling.{filled_count, filled_marked, filled_fed}

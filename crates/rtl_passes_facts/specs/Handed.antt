@@ -1,12 +1,12 @@
 -- What is asked of a node whose facts were handed to it: edges to marked nodes alone tell.
 use Rattle.std.specs.Prelude.{◌≡◌, ℕ, List, [], Option, All, slice_get}
-use Rattle.rtl_passes_filled.specs.Instruction.{Instruction}
-use Rattle.rtl_passes_filled.specs.Function.{FunctionData}
-use Rattle.rtl_passes_filled.specs.NodeRow.{NodeRow}
-use Rattle.rtl_passes_filled.specs.Ranked.{RiseFrom}
-use Rattle.rtl_passes_filled.specs.Edges.{edges_of}
-use Rattle.rtl_passes_filled.specs.Rows.{AreRows}
-use Rattle.rtl_passes_filled.specs.Handing.{standing, left_by, handed_on, IsMarkedBy}
+use Rattle.rtl_language.specs.declared.instruction.Instruction.{Instruction}
+use Rattle.rtl_language.specs.Function.{FunctionData}
+use Rattle.rtl_passes_marks.specs.declared.row.NodeRow.{NodeRow}
+use Rattle.rtl_passes_marks.specs.Ranked.{RiseFrom}
+use Rattle.rtl_passes_marks.specs.Edges.{edges_of}
+use Rattle.rtl_passes_marks.specs.Rows.{AreRows}
+use Rattle.rtl_passes_marks.specs.Handing.{standing, left_by, handed_on, IsMarkedBy}
 use Rattle.rtl_passes_filled.specs.Rules.{RulesOf, facts_at, IsInOrder, LeadsTo, MayBecome, IsRightAt}
 use Rattle.rtl_passes_filled.specs.Filled.{behind, filled_in}
 

@@ -2,11 +2,3 @@ pub mod Edges
 pub mod Certificates
 pub mod Laws
 pub mod Handed
-pub use Rattle.rtl_passes_filled.specs.Accepted
-pub use Rattle.rtl_passes_filled.specs.Known
-pub use Rattle.rtl_passes_filled.specs.Places
-pub use Rattle.rtl_passes_filled.specs.Function
-pub use Rattle.rtl_passes_filled.specs.Meaning
-pub use Rattle.rtl_passes_filled.specs.Instruction
-pub use Rattle.rtl_passes_filled.specs.Fits
-pub use Rattle.rtl_passes_filled.specs.Act

@@ -3,7 +3,8 @@ ghost use Rattle.rtl_passes_filled.specs.Accepted.{IsAccepted};
 
 use crate::rules::Rules;
 use lang_base::{Language, NoMemory, Row};
-use rtl_passes_filled::{Function, NodeRow, Rtl};
+use rtl_language::{Function, Rtl};
+use rtl_passes_marks::NodeRow;
 use std::alloc::Global;
 
 /// The input itself, with no facts at marked nodes.

@@ -1,14 +1,14 @@
 //! What is known behind an instruction, made in place of what is known before it.
 
 ghost use Rattle.std.specs.Prelude.{◌≡◌, OnOk};
-ghost use Rattle.rtl_passes_filled.specs.Ranked.{RiseFrom};
+ghost use Rattle.rtl_passes_marks.specs.Ranked.{RiseFrom};
 ghost use Rattle.rtl_passes_filled.specs.Filled.{behind};
 ghost use Rattle.rtl_passes_filled.specs.Filled.{put_in as put_among};
 ghost use Rattle.rtl_passes_filled.specs.Places.{IsFirstFrom};
 
 use crate::rules::Rules;
 use lang_base::NoMemory;
-use rtl_passes_filled::Instruction;
+use rtl_language::Instruction;
 
 /// Finds the first fact that has no lower place than this, by halves.
 fn first_from<R: Rules>(facts: &[R::Fact], least: u64) -> usize

@@ -1,7 +1,7 @@
 use crate::order::is_in_order;
 use crate::rules::Rules;
 use lang_base::{FormError, NoMemory};
-use rtl_passes_filled::Entries;
+use rtl_passes_marks::Entries;
 use std::marker::PhantomData;
 
 /// The facts of a pass, as the entries of rows among so many registers.

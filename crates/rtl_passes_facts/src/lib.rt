@@ -17,7 +17,6 @@ mod writing;
 pub use base::unchanged;
 pub use edges::Edges;
 pub use reading::read_certificate;
-pub use rtl_passes_filled::{Act, Arguments, Function, Instruction, Register, Rtl, is_same};
 pub use rules::Rules;
 pub use verdict::{check, why};
 pub use writing::write_certificate;

@@ -2,11 +2,11 @@
 //! The rows are borrowed; of those alone that are handed on a copy is made.
 
 ghost use Rattle.std.specs.Prelude.{◌≡◌, ◌↔◌, ◌<◌, [], length, All, IsTrue, IfOk, OnOk};
-ghost use Rattle.rtl_passes_filled.specs.Faults.{TellsLowest};
-ghost use Rattle.rtl_passes_filled.specs.Shape.{HasSameShape};
-ghost use Rattle.rtl_passes_filled.specs.Handing.{IsMarkedBy};
-ghost use Rattle.rtl_passes_filled.specs.Marks.{AreFeeders};
-ghost use Rattle.rtl_passes_filled.specs.Ranked.{RiseFrom};
+ghost use Rattle.rtl_passes.specs.Faults.{TellsLowest};
+ghost use Rattle.rtl_passes.specs.Shape.{HasSameShape};
+ghost use Rattle.rtl_passes_marks.specs.Handing.{IsMarkedBy};
+ghost use Rattle.rtl_passes_marks.specs.Marks.{AreFeeders};
+ghost use Rattle.rtl_passes_marks.specs.Ranked.{RiseFrom};
 ghost use Rattle.rtl_passes_facts.specs.Edges.{nodes_of};
 ghost use Rattle.rtl_passes_facts.specs.Handed.{standing_at, AreInOrder, LeadsToMarked, LeadsOnMarked, RiseAtMarked, IsRightBy, IsRightFilled, IsHandedBehind, IsHandedOn};
 ghost use Rattle.rtl_passes_filled.specs.Rules.{facts_at, LeadsTo, MayBecome};
@@ -16,9 +16,9 @@ use crate::edges::Edges;
 use crate::rules::Rules;
 use crate::walk::are_known;
 use lang_base::{NoMemory, Row};
-use rtl_passes_filled::{
-    Function, Instruction, NodeRow, Said, empty_lists, feeds_any, hand_on, is_fed, is_same, take,
-};
+use rtl_language::{Function, Instruction};
+use rtl_passes_marks::{NodeRow, Said, feeds_any, hand_on, is_fed, take};
+use rtl_passes::{empty_lists, is_same};
 use std::alloc::Global;
 
 /// Finds the lowest node that breaks a rule.

@@ -1,7 +1,7 @@
 //! Whether facts are in order.
 
 ghost use Rattle.std.specs.Prelude.{◌↔◌, All, IsTrue};
-ghost use Rattle.rtl_passes_filled.specs.Ranked.{RiseFrom};
+ghost use Rattle.rtl_passes_marks.specs.Ranked.{RiseFrom};
 ghost use Rattle.rtl_passes_filled.specs.Rules.{IsInOrder};
 
 use crate::rules::Rules;

@@ -1,14 +1,15 @@
 //! Readers of certificates: rows of facts at marked nodes.
 
 ghost use Rattle.std.specs.Prelude.{◌≡◌, ◌≢◌, ◌≤◌, ℕ, List, ◌++◌, length, take, IfOk, IfErr};
-ghost use Rattle.rtl_passes_filled.specs.NodeRow.{NodeRow};
-ghost use Rattle.rtl_passes_filled.specs.RowForm.{rows_text};
+ghost use Rattle.rtl_passes_marks.specs.declared.row.NodeRow.{NodeRow};
+ghost use Rattle.rtl_passes_marks.specs.RowForm.{rows_text};
 ghost use Rattle.rtl_passes_facts.specs.Certificates.{CertFits};
 
 use crate::entries::Facts;
 use crate::rules::Rules;
 use lang_base::{FormError, Row};
-use rtl_passes_filled::{Function, NodeRow, read_rows};
+use rtl_language::Function;
+use rtl_passes_marks::{NodeRow, read_rows};
 use std::alloc::Global;
 
 /// The certificate beside this input whose spelling is a front of the bytes, and how long that is.

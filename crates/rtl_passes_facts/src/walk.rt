@@ -1,11 +1,11 @@
 //! Whether facts are among others, or known behind them: both lists are in order, so one walk along both tells.
 
 ghost use Rattle.std.specs.Prelude.{◌≡◌, ◌↔◌, ◌≤◌, Some, All, IsTrue, Contains};
-ghost use Rattle.rtl_passes_filled.specs.Ranked.{RiseFrom};
+ghost use Rattle.rtl_passes_marks.specs.Ranked.{RiseFrom};
 ghost use Rattle.rtl_passes_filled.specs.Known.{IsMadeOrKept};
 
 use crate::rules::Rules;
-use rtl_passes_filled::Instruction;
+use rtl_language::Instruction;
 
 /// The facts from this place on.
 fn from_place<R: Rules>(facts: &[R::Fact], least: u64) -> &[R::Fact]

@@ -1,13 +1,14 @@
 //! Writers of certificates.
 
 ghost use Rattle.std.specs.Prelude.{◌≡◌, ◌++◌, OnOk, OnErr};
-ghost use Rattle.rtl_passes_filled.specs.RowForm.{rows_text};
+ghost use Rattle.rtl_passes_marks.specs.RowForm.{rows_text};
 ghost use Rattle.rtl_passes_facts.specs.Certificates.{CertFits};
 
 use crate::entries::Facts;
 use crate::rules::Rules;
 use lang_base::NoMemory;
-use rtl_passes_filled::{Function, NodeRow, write_rows};
+use rtl_language::Function;
+use rtl_passes_marks::{NodeRow, write_rows};
 
 /// Writes the rows beside this input at the end of `out`, which a refusal leaves as it was.
 pub fn write_certificate<R: Rules>(

@@ -5,10 +5,3 @@ pub mod Shapes
 pub mod Sound
 pub mod Places
 pub mod Rising
-pub use Rattle.rtl_passes_marks.proofs.Fed
-pub use Rattle.rtl_passes_marks.proofs.Handings
-pub use Rattle.rtl_passes_marks.proofs.Verdicts
-pub use Rattle.rtl_passes_marks.proofs.Equal
-pub use Rattle.rtl_passes_marks.proofs.Forms
-pub use Rattle.rtl_passes_marks.proofs.MachineEqual
-pub use Rattle.rtl_passes_marks.proofs.Operators

@@ -5,8 +5,3 @@
 mod lists;
 
 pub use lists::list_at;
-pub use rtl_passes_marks::{
-    Act, Arguments, Entries, Function, Instruction, NodeRow, Register, Rtl, Said, Test, are_rows,
-    empty_lists, entries_of, feeders_of, feeds_any, hand_on, has_same_shape, is_fed, is_same,
-    push_arguments, read_arguments, read_register, read_rows, take, write_rows,
-};

@@ -4,8 +4,3 @@ pub mod Short
 pub mod Handings
 pub mod Numbers
 pub mod Sound
-pub use Rattle.rtl_passes.proofs.Verdicts
-pub use Rattle.rtl_passes.proofs.Equal
-pub use Rattle.rtl_passes.proofs.Forms
-pub use Rattle.rtl_passes.proofs.MachineEqual
-pub use Rattle.rtl_passes.proofs.Operators

@@ -2,8 +2,8 @@
 use Rattle.std.proofs.Common.{◌≡◌, ℕ, ◌<◌, ◌≤◌, ◌^◌, List, [], ◌++◌, length, refl, arith}
 use Rattle.std.specs.Int.{w16, to_be_bytes}
 use Rattle.std.specs.List.{AllByRecursion}
-use Rattle.rtl_passes.specs.LangBaseReading.{Reading, number, below, both, made, counted}
-use Rattle.rtl_passes.specs.Texts.{counted_text}
+use Rattle.lang_base.specs.Reading.{Reading, number, below, both, made, counted}
+use Rattle.lang_base.specs.Texts.{counted_text}
 use Rattle.lang_base.proofs.Forms.{IsForm}
 use Rattle.lang_base.proofs.Parts.{number16_form, below_form, both_form, made_form, fits_form}
 use Rattle.lang_base.proofs.Lists.{counted_form, each_fits, fits_each}

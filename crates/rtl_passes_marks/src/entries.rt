@@ -1,8 +1,8 @@
 ghost use Rattle.std.specs.Prelude.{◌↔◌, ℕ, List, IsTrue};
-ghost use Rattle.rtl_passes.specs.LangBaseReading.{Reading, IsRead};
-ghost use Rattle.rtl_passes.specs.Texts.{Appends};
+ghost use Rattle.lang_base.specs.Reading.{Reading, IsRead};
+ghost use Rattle.lang_base.specs.Texts.{Appends};
 
-use rtl_passes::{FormError, NoMemory};
+use lang_base::{FormError, NoMemory};
 
 /// What rows of a pass are made of.
 pub trait Entries {

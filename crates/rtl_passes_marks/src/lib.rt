@@ -19,9 +19,5 @@ pub use handing::{feeds_any, hand_on, is_fed, take};
 pub use marks::{Came, feeders_of};
 pub use reading::read_rows;
 pub use row::{NodeRow, entries_of};
-pub use rtl_passes::{
-    Act, Arguments, Fault, Function, Instruction, Register, Rtl, Test, empty_lists, has_same_shape,
-    is_same, push_arguments, read_arguments, read_register,
-};
 pub use said::Said;
 pub use writing::write_rows;

@@ -1,13 +1,14 @@
 //! Readers of rows: their number, and of each the node, the number of its entries and these.
 
 ghost use Rattle.std.specs.Prelude.{◌≡◌, ◌≤◌, List};
-ghost use Rattle.rtl_passes.specs.LangBaseReading.{Reads, items_of};
+ghost use Rattle.lang_base.specs.Reading.{Reads, items_of};
 ghost use Rattle.rtl_passes.specs.ListForm.{list};
 ghost use Rattle.rtl_passes_marks.specs.RowForm.{row, rows};
 
 use crate::entries::Entries;
 use crate::row::NodeRow;
-use rtl_passes::{FormError, ReadOne, Row, read_so_many, read_u16, read_u16_below};
+use lang_base::{FormError, Row, read_u16, read_u16_below};
+use lang_parts::{ReadOne, read_so_many};
 use std::alloc::Global;
 use std::marker::PhantomData;
 

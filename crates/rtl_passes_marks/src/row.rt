@@ -1,7 +1,7 @@
 ghost use Rattle.std.specs.Prelude.{◌≡◌};
 ghost use Rattle.rtl_passes_marks.specs.Rows.{entries_at as entries_by};
 
-use rtl_passes::Row;
+use lang_base::Row;
 
 /// What is said at a node. Anybody may propose one, so nothing is promised of it.
 #[derive(Drop)]

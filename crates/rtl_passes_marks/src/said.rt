@@ -4,7 +4,7 @@ ghost use Rattle.std.specs.Prelude.{◌≡◌, [], replicate, slice_index_or, sl
 ghost use Rattle.rtl_passes_marks.specs.Handing.{spread_on};
 
 use crate::row::NodeRow;
-use rtl_passes::NoMemory;
+use lang_base::NoMemory;
 use std::alloc::Global;
 use std::marker::Model;
 

@@ -1,14 +1,15 @@
 //! Writers of rows.
 
 ghost use Rattle.std.specs.Prelude.{◌≡◌, ◌<◌, ◌^◌, ◌++◌, length, All, OnOk, OnErr};
-ghost use Rattle.rtl_passes.specs.Texts.{Appends};
+ghost use Rattle.lang_base.specs.Texts.{Appends};
 ghost use Rattle.rtl_passes.specs.ListForm.{list_text};
 ghost use Rattle.rtl_passes_marks.specs.RowForm.{row_text, rows_text};
 ghost use Rattle.rtl_passes_marks.specs.Short.{IsShort, AreShort};
 
 use crate::entries::Entries;
 use crate::row::NodeRow;
-use rtl_passes::{NoMemory, WriteOne, push_each, push_u16};
+use lang_base::{NoMemory, push_u16};
+use lang_parts::{WriteOne, push_each};
 use std::marker::PhantomData;
 
 /// Writes an entry.

@@ -12,7 +12,7 @@ use Rattle.rtl_language.specs.Meaning as R
 use Rattle.cminor_syntax.specs.Trees.{FunctionTree}
 use Rattle.cminor_syntax.specs.Trees as C
 use Rattle.cminor_syntax.specs.Meaning as M
-use Rattle.rtlgen_code.specs.Gen.{gen_function, gen}
+use Rattle.rtlgen_definition.specs.Gen.{gen_function, gen}
 
 -- x = 5; return x;
 abbrev five : FunctionTree

@@ -6,7 +6,7 @@ use Rattle.std.specs.Prelude.{All}
 use Rattle.std.proofs.lemmas.List.Elements.{All-head, All-tail}
 use Rattle.lang_base.specs.declared.program.Named.{Named}
 use Rattle.cminor_syntax.specs.Trees.{FunctionTree}
-use Rattle.rtlgen_code.specs.Gen.{HasTooManyNodes}
+use Rattle.rtlgen_definition.specs.Gen.{HasTooManyNodes}
 use Rattle.rtlgen.specs.Refused.{HasFewNodes, IsFirstTooLarge}
 
 pub whole : {A : Type 0} (xs : List A) (n : ℕ) → length xs ≤ n → take n xs ≡ xs

@@ -9,9 +9,9 @@ use Rattle.rtl_language.specs.Function as R
 use Rattle.cminor_syntax.specs.Trees.{StatementTree, StatementsTree, FunctionTree}
 use Rattle.cminor_syntax.specs.Trees as T
 use Rattle.cminor_syntax.specs.Fits.{IsFunction}
-use Rattle.rtlgen_code.specs.Pieces.{Piece, both}
-use Rattle.rtlgen_code.specs.Gen.{statement, statements, ends_with_value, last_with_value, ending, numbers_from, gen_function}
-use Rattle.rtlgen_code.proofs.Functions.{length-numbers}
+use Rattle.rtlgen_definition.specs.Pieces.{Piece, both}
+use Rattle.rtlgen_definition.specs.Gen.{statement, statements, ends_with_value, last_with_value, ending, numbers_from, gen_function}
+use Rattle.rtlgen_definition.proofs.Functions.{length-numbers}
 use Rattle.rtlgen.proofs.Needs.{registers_few}
 use Rattle.rtlgen.proofs.Nodes.{PieceFits, nothing_fits, one_fits, both_fits, statement_fits}
 

@@ -2,8 +2,8 @@
 use Rattle.std.proofs.Common.{◌≡◌, ◌≤◌, ℕ, zero, suc, ◌+◌, [], ◌∷◌, ◌++◌, length, ap, subst, ◌∙◌, arith}
 use Rattle.std.specs.Prelude.{false}
 use Rattle.rtl_language.specs.Function.{node_limit}
-use Rattle.rtlgen_code.specs.Gen.{numbers_from}
-use Rattle.rtlgen_code.specs.Pieces.{Piece}
+use Rattle.rtlgen_definition.specs.Gen.{numbers_from}
+use Rattle.rtlgen_definition.specs.Pieces.{Piece}
 use Rattle.rtlgen_code.specs.declared.graph.Graph.{Graph}
 use Rattle.rtlgen_code.specs.Adding.{Adds}
 

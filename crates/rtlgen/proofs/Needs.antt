@@ -3,7 +3,7 @@ use Rattle.std.proofs.Common.{ℕ, ◌+◌, ◌≤◌, List, [], ◌∷◌, leng
 use Rattle.cminor_syntax.specs.Trees.{ExpressionTree, StatementTree, StatementsTree, FunctionTree}
 use Rattle.cminor_syntax.specs.Trees as T
 use Rattle.cminor_syntax.specs.Fits.{StatementFits, StatementsFit, IsFunction, expression_height, arguments_height, statement_height, statements_height}
-use Rattle.rtlgen_code.specs.Gen.{needs, operands_need, statement_needs, statements_need, gen_function}
+use Rattle.rtlgen_definition.specs.Gen.{needs, operands_need, statement_needs, statements_need, gen_function}
 
 needs_few : (e : ExpressionTree) → needs e ≤ expression_height e
 needs_few (T.Number w) = omega arith

@@ -17,9 +17,9 @@ use Rattle.cminor_syntax.specs.Trees.{ExpressionTree, StatementTree, StatementsT
 use Rattle.cminor_syntax.specs.Trees as T
 use Rattle.cminor_syntax.specs.Fits.{ExpressionFits, StatementFits, StatementsFit}
 use Rattle.cminor_syntax.specs.Fits as C
-use Rattle.rtlgen_code.specs.Pieces.{Made, Piece, nothing, one, both, either, again}
-use Rattle.rtlgen_code.specs.Gen.{operand_register, unless_variable, expression, operand, operands, operand_registers, statement, statements, needs, operands_need, statement_needs, statements_need}
-use Rattle.rtlgen_code.proofs.Expressions.{needs_some, operand_register_below}
+use Rattle.rtlgen_definition.specs.Pieces.{Made, Piece, nothing, one, both, either, again}
+use Rattle.rtlgen_definition.specs.Gen.{operand_register, unless_variable, expression, operand, operands, operand_registers, statement, statements, needs, operands_need, statement_needs, statements_need}
+use Rattle.rtlgen_definition.proofs.Expressions.{needs_some, operand_register_below}
 
 one_argument : cond_argument_count_of Nz ≡ 1
 unfolding cond_argument_count_of

@@ -5,7 +5,7 @@ use Rattle.std.proofs.lemmas.List.Elements.{All-map, All-weaker}
 use Rattle.lang_base.specs.declared.program.Named.{Named}
 use Rattle.cminor_syntax.specs.Fits.{IsFunction}
 use Rattle.cminor_syntax.specs.Trees.{FunctionTree}
-use Rattle.rtlgen_code.specs.Gen.{gen_function, gen_named}
+use Rattle.rtlgen_definition.specs.Gen.{gen_function, gen_named}
 
 pub all_small : (fs : List (Named FunctionTree)) → ((f : FunctionTree) → IsFunction f → (gen_function f).registers ≤ 2048)
     → All (λ f. IsFunction f.function) fs → All (λ g. g.function.registers ≤ 2048) (map gen_named fs)

@@ -3,7 +3,7 @@ use Rattle.std.specs.Prelude.{◌≤◌, length}
 use Rattle.cminor_syntax.specs.Trees.{FunctionTree}
 use Rattle.cminor_syntax.specs.Fits as C
 use Rattle.rtl_language.specs.Function as R
-use Rattle.rtlgen_code.specs.Gen.{gen_function}
+use Rattle.rtlgen_definition.specs.Gen.{gen_function}
 
 -- a function in range is translated to one in range where the nodes can be numbered
 abbrev pub GeneratedFits : Type 0

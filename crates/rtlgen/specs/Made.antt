@@ -3,8 +3,8 @@ use Rattle.std.specs.Prelude.{◌≡◌, [], Option, MatchOption}
 use Rattle.lang_base.specs.declared.program.Named.{Named}
 use Rattle.cminor_syntax.specs.Trees.{FunctionTree}
 use Rattle.rtl_language.specs.Function.{FunctionData}
-use Rattle.rtlgen_code.specs.Pieces.{Piece, both}
-use Rattle.rtlgen_code.specs.Gen.{statement, ends_with_value, ending, gen_function, gen_named, HasTooManyNodes}
+use Rattle.rtlgen_definition.specs.Pieces.{Piece, both}
+use Rattle.rtlgen_definition.specs.Gen.{statement, ends_with_value, ending, gen_function, gen_named, HasTooManyNodes}
 
 -- a body, and what stands at its end
 abbrev pub body_piece : FunctionTree → Piece

@@ -3,7 +3,7 @@ use Rattle.std.specs.Prelude.{ℕ, zero, suc, ◌≤◌, List, [], ◌∷◌, le
 use Rattle.lang_base.specs.declared.program.Named.{Named}
 use Rattle.rtl_language.specs.Function.{node_limit}
 use Rattle.cminor_syntax.specs.Trees.{FunctionTree}
-use Rattle.rtlgen_code.specs.Gen.{gen_function, HasTooManyNodes}
+use Rattle.rtlgen_definition.specs.Gen.{gen_function, HasTooManyNodes}
 use Rattle.rtlgen.specs.declared.errors.GenError.{GenError}
 use Rattle.rtlgen.specs.declared.errors.GenError.TheVariants.{NoMemory, TooManyNodes}
 

@@ -2,7 +2,7 @@
 
 ghost use Rattle.std.specs.Prelude.{◌≡◌, ◌≤◌, length, IfOk, OnSome};
 ghost use Rattle.rtlgen_code.specs.Adding.{Adds};
-ghost use Rattle.rtlgen_code.specs.Gen.{numbers_from, ending, gen_function};
+ghost use Rattle.rtlgen_definition.specs.Gen.{numbers_from, ending, gen_function};
 ghost use Rattle.rtl_language.specs.Function.{node_limit};
 ghost use Rattle.rtlgen.specs.Made.{body_piece, IsMadeOf, IsMadeOfNamed};
 ghost use Rattle.rtlgen.specs.Refused.{HasFewNodes};

@@ -4,7 +4,7 @@ ghost use Rattle.std.specs.Prelude.{◌≡◌, ◌≤◌, All, IfOk, IfErr, OnOk
 ghost use Rattle.lang_base.specs.Keeps.{Keeps};
 ghost use Rattle.cminor_syntax.specs.Fits.{IsFunction};
 ghost use Rattle.cminor_syntax.specs.Meaning as C;
-ghost use Rattle.rtlgen_code.specs.Gen.{gen, gen_named};
+ghost use Rattle.rtlgen_definition.specs.Gen.{gen, gen_named};
 ghost use Rattle.rtl_language.specs.Meaning as R;
 ghost use Rattle.rtlgen.specs.Refused.{HasFewNodes, IsRefused};
 
@@ -15,7 +15,7 @@ use cminor_language::Function as CminorFunction;
 use lang_base::{Named, Program, Row};
 use lang_parts::copy_globals;
 use rtl_language::Function;
-use rtlgen_code::generated_keeps;
+use rtlgen_definition::generated_keeps;
 use std::alloc::Global;
 
 /// Each function is in range.

@@ -4,5 +4,3 @@ pub mod Rests
 pub mod StatementArms
 pub mod Lasts
 pub mod Rows
-pub use Rattle.rtlgen_definition.proofs.Expressions
-pub use Rattle.rtlgen_definition.proofs.Functions

@@ -15,7 +15,6 @@ pub use endings::ends_with_value;
 pub use expressions::{add_act, add_branch, add_expression, add_operand, operand_register};
 pub use graph::Graph;
 pub use operands::{add_operands, operand_registers};
-pub use rtlgen_definition::generated_keeps;
 pub use statement_temporaries::statement_needs;
 pub use statements::add_statement;
 pub use temporaries::{needs, operands_need};

@@ -1,15 +1,17 @@
 //! Plain instructions and tests.
 
 ghost use Rattle.std.specs.Prelude.{◌≡◌, [], ◌∷◌};
-ghost use Rattle.lang_parts.specs.Texts.{Appends};
+ghost use Rattle.lang_base.specs.Texts.{Appends};
 ghost use Rattle.text_words.specs.declared.word.Word.TheVariants.{Named};
 ghost use Rattle.text_words.specs.Lines.{spaced};
 ghost use Rattle.text_acts.specs.Acts.{argument_words, test_words, value_words, global_word, operate_words, load_words, store_words, act_target, act_left, act_right};
 
 use crate::places::word_of_register;
 use ints::Op;
-use machine::{Act, Arguments, Register, Test};
-use text_words::{Key, Letter, NoMemory, Word, condition_key, push_key, push_word};
+use machine::{Act, Arguments, Test};
+use locations::Register;
+use text_words::{Key, Letter, Word, condition_key, push_key, push_word};
+use lang_base::NoMemory;
 
 fn push_arguments(out: &mut Vec<u8>, arguments: &Arguments) -> Result<(), NoMemory>
     ensures { Appends result (spaced (argument_words arguments.now)) out.old.items out.new.items }

@@ -1,13 +1,14 @@
 //! Registers and locations.
 
 ghost use Rattle.std.specs.Prelude.{◌≡◌};
-ghost use Rattle.lang_parts.specs.Texts.{Appends};
+ghost use Rattle.lang_base.specs.Texts.{Appends};
 ghost use Rattle.text_words.specs.Lines.{spaced};
 ghost use Rattle.text_words.specs.Words.{target_words};
 ghost use Rattle.text_acts.specs.Acts.{register_word, location_word};
 
-use machine::{Location, Register};
-use text_words::{Key, Letter, NoMemory, SpacedWord, Word, push_key, push_word};
+use locations::{Location, Register};
+use text_words::{Key, Letter, SpacedWord, Word, push_key, push_word};
+use lang_base::NoMemory;
 
 /// The word of a register.
 pub fn word_of_register(register: Register) -> Word

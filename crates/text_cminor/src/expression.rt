@@ -9,7 +9,8 @@ ghost use Rattle.text_cminor.specs.Shown.{shown_key, global_spaced, shown_expres
 
 use cminor_syntax::Expression;
 use lang_base::NoMemory;
-use text_words::{Key, Letter, Word, WriteOne, push_each, push_key, push_word};
+use text_words::{Key, Letter, Word, push_key, push_word};
+use lang_parts::{WriteOne, push_each};
 
 /// Opens parentheses, and says what stands in them.
 fn push_opening(out: &mut Vec<u8>, key: Key) -> Result<(), NoMemory>

@@ -7,7 +7,8 @@ use crate::instruction::Line;
 use lang_base::{Named, NoMemory};
 use linear_language::Function;
 use text_acts::Located;
-use text_words::{Key, WriteOne, end_line, push_count, push_each, push_head};
+use text_words::{Key, end_line, push_count, push_head};
+use lang_parts::{WriteOne, push_each};
 
 /// Writes the text of a function under a name.
 pub fn push_named(out: &mut Vec<u8>, name: &[u8], function: &Function) -> Result<(), NoMemory>

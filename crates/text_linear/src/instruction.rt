@@ -6,15 +6,14 @@ ghost use Rattle.text_linear.specs.Shown.{left, right, behind, call_words, branc
 
 use lang_base::NoMemory;
 use linear_language::Instruction;
-use machine::{Location, Register, Test};
+use locations::{Location, Register};
+use machine::Test;
 use text_acts::{
     Located, push_act_left, push_act_right, push_target, push_test, push_told, push_value,
     word_of_location,
 };
-use text_words::{
-    Key, Letter, Word, WriteOne, end_line, push_bytes, push_count, push_each_word, push_key,
-    push_word,
-};
+use text_words::{Key, Letter, Word, end_line, push_bytes, push_count, push_each_word, push_key, push_word};
+use lang_parts::WriteOne;
 
 /// Where what an instruction gives goes, before what it does.
 fn push_left(out: &mut Vec<u8>, instruction: &Instruction) -> Result<(), NoMemory>

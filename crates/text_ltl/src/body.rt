@@ -8,7 +8,8 @@ ghost use Rattle.text_ltl.specs.Shown.{body_left, body_right, behind, call_words
 use crate::moves::push_moves;
 use lang_base::NoMemory;
 use ltl::Body;
-use machine::{Act, Location};
+use machine::Act;
+use locations::Location;
 use text_acts::{Located, push_act_left, push_act_right, push_target, push_test, push_value};
 use text_words::{Key, Letter, Word, end_line, push_count, push_each_word, push_key, push_word};
 

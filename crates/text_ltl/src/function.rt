@@ -8,7 +8,8 @@ use crate::block::Line;
 use lang_base::{Named, NoMemory};
 use ltl::Function;
 use text_acts::Located;
-use text_words::{Key, WriteOne, end_line, push_count, push_head, push_numbered};
+use text_words::{Key, end_line, push_count, push_head, push_numbered};
+use lang_parts::WriteOne;
 
 /// How many slots a function has, and where it begins.
 fn push_size(out: &mut Vec<u8>, function: &Function) -> Result<(), NoMemory>

@@ -4,9 +4,10 @@ ghost use Rattle.lang_base.specs.Texts.{Appends};
 ghost use Rattle.text_ltl.specs.Shown.{shown_move, shown_between, shown_moves};
 
 use lang_base::NoMemory;
-use machine::Move;
+use locations::Move;
 use text_acts::word_of_location;
-use text_words::{Key, WriteOne, push_each, push_key, push_word};
+use text_words::{Key, push_key, push_word};
+use lang_parts::{WriteOne, push_each};
 
 /// The words of a move.
 struct Step;

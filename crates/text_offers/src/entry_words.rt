@@ -5,8 +5,8 @@ ghost use Rattle.text_words.specs.Lines.{spaced};
 ghost use Rattle.text_offers.specs.Entries.{constant_words, fact_words, right_words, equation_words, place_words};
 
 use crate::writing::EntryWords;
-use constprop_check::Fact;
-use cse_check::RightSide;
+use constprop_check_rules::Fact;
+use cse_check_rules::RightSide;
 use lang_base::NoMemory;
 use text_acts::word_of_location;
 use text_rtl::{push_load, push_operate, word_of_register};
@@ -56,11 +56,11 @@ fn push_right(out: &mut Vec<u8>, right: &RightSide) -> Result<(), NoMemory>
 pub(crate) struct Equal;
 
 impl EntryWords for Equal {
-    type Entry = cse_check::Equation;
+    type Entry = cse_check_rules::Equation;
 
     ghost words = { equation_words };
 
-    fn push(out: &mut Vec<u8>, entry: &cse_check::Equation) -> Result<(), NoMemory> {
+    fn push(out: &mut Vec<u8>, entry: &cse_check_rules::Equation) -> Result<(), NoMemory> {
         push_word(out, word_of_register(entry.register))?;
         push_key(out, Key::Is)?;
         push_right(out, &entry.right)
@@ -71,11 +71,11 @@ impl EntryWords for Equal {
 pub(crate) struct Placed;
 
 impl EntryWords for Placed {
-    type Entry = alloc_check::Equation;
+    type Entry = alloc_check_rules::Equation;
 
     ghost words = { place_words };
 
-    fn push(out: &mut Vec<u8>, entry: &alloc_check::Equation) -> Result<(), NoMemory> {
+    fn push(out: &mut Vec<u8>, entry: &alloc_check_rules::Equation) -> Result<(), NoMemory> {
         push_word(out, word_of_register(entry.register))?;
         push_key(out, Key::Is)?;
         push_word(out, word_of_location(entry.location))

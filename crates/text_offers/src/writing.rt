@@ -10,10 +10,8 @@ ghost use Rattle.text_offers.specs.Lines.{entry_line, row_lines, rows_lines, ord
 use lang_base::NoMemory;
 use rtl_passes_marks::NodeRow;
 use std::marker::PhantomData;
-use text_words::{
-    SpacedWord, Word as OneWord, WriteOne, end_line, push_bytes, push_each, push_each_word,
-    push_word,
-};
+use text_words::{SpacedWord, Word as OneWord, end_line, push_bytes, push_each_word, push_word};
+use lang_parts::{WriteOne, push_each};
 
 /// What a certificate says at a node has words.
 pub(crate) trait EntryWords {

@@ -6,7 +6,8 @@ ghost use Rattle.text_programs.specs.Programs.{shown_rest};
 
 use crate::global::push_globals;
 use lang_base::{Global, NoMemory};
-use text_words::{WriteOne, push_bytes, push_each};
+use lang_parts::{WriteOne, push_each};
+use text_words::push_bytes;
 
 /// Writes a title, the globals, and the functions, each by its own writer.
 pub fn push_program<W: WriteOne>(

@@ -9,7 +9,7 @@ ghost use Rattle.text_rtl.specs.Acts.{register_word, global_word, argument_words
 
 use ints::Op;
 use lang_base::NoMemory;
-use rtl_language::{Act, Arguments, Register, Test};
+use rtl_parts::{Act, Arguments, Register, Test};
 use text_words::{Key, Letter, SpacedWord, Word, condition_key, push_key, push_word};
 
 /// The word of a register.

@@ -7,7 +7,8 @@ ghost use Rattle.text_rtl.specs.Shown.{left, right, behind, call_words, shown_no
 
 use crate::acts::{InRegister, push_act_right, push_target, push_test, push_value, target_of};
 use lang_base::NoMemory;
-use rtl_language::{Instruction, Register};
+use rtl_language::Instruction;
+use rtl_parts::Register;
 use text_words::{
     Key, Letter, Word, WriteNumbered, end_line, push_bytes, push_count, push_each_word, push_key,
     push_number, push_word,

@@ -8,7 +8,7 @@ ghost use Rattle.text_words.specs.Names.{next_parameter, parameters_text, named_
 
 use crate::word::Word;
 use crate::writing::{SpacedWord, push_bare, push_bytes};
-use lang_parts::NoMemory;
+use lang_base::NoMemory;
 
 /// Writes a parameter with a comma and a blank before it.
 fn push_another(out: &mut Vec<u8>, word: Word) -> Result<(), NoMemory>

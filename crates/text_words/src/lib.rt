@@ -12,7 +12,6 @@ mod writing;
 
 pub use head::push_head;
 pub use key::{Key, condition_key, key_text};
-pub use lang_parts::{NoMemory, WriteOne, push_byte, push_each};
 pub use number::push_number;
 pub use numbered::{WriteNumbered, push_numbered};
 pub use word::{Letter, Word};

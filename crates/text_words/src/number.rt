@@ -1,7 +1,7 @@
 ghost use Rattle.std.specs.Prelude.{decimal};
 ghost use Rattle.lang_base.specs.Texts.{Appends};
 
-use lang_parts::{NoMemory, push_byte};
+use lang_base::{NoMemory, push_byte};
 
 /// Writes a number in decimal digits, without leading zeros.
 #[tactic(auto, using(crate::proofs::Digits::one_digit))]

@@ -4,7 +4,7 @@ ghost use Rattle.std.specs.Prelude.{ℕ, List, ◌<◌};
 ghost use Rattle.lang_base.specs.Texts.{Appends};
 ghost use Rattle.text_words.specs.Numbered.{numbered_text};
 
-use lang_parts::NoMemory;
+use lang_base::NoMemory;
 
 /// Writes one of a kind, with its number.
 pub trait WriteNumbered {

@@ -10,7 +10,7 @@ ghost use Rattle.text_words.specs.Words.{letter_byte, word_text};
 use crate::key::{Key, key_text};
 use crate::number::push_number;
 use crate::word::{Letter, Word};
-use lang_parts::{NoMemory, push_byte};
+use lang_base::{NoMemory, push_byte};
 
 /// Writes bytes.
 pub fn push_bytes(out: &mut Vec<u8>, bytes: &[u8]) -> Result<(), NoMemory>

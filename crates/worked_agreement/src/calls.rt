@@ -3,7 +3,8 @@
 use crate::kept_parts::entries_told;
 use crate::nodes::{all_nodes, restart};
 use crate::words::{message_of, message_told, quorums_of, yes_or_no};
-use paxos_core::{Kept, Msg, Node, Quorums};
+use paxos_core_world::{kept::Kept, msg::Msg, quorum::Quorums};
+use paxos_core::Node;
 use program_rows::{numbered, owned};
 use std::alloc::Global;
 

@@ -1,7 +1,8 @@
 //! Kept parts of nodes, and what is settled.
 
 use crate::words::{quorums_of, yes_or_no};
-use paxos_core::{Kept, Quorums, settled};
+use paxos_core_world::{kept::Kept, quorum::Quorums};
+use paxos_core_model::settled::settled;
 use program_rows::owned;
 use std::alloc::Global;
 

@@ -1,6 +1,7 @@
 //! The nodes of a room.
 
-use paxos_core::{Kept, Node, Quorums};
+use paxos_core_world::{kept::Kept, quorum::Quorums};
+use paxos_core::Node;
 use std::alloc::Global;
 
 /// All nodes of a room with these quorums.

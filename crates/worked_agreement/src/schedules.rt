@@ -3,7 +3,9 @@
 
 use crate::nodes::{all_nodes, restart};
 use crate::words::{numbers, quorums_of};
-use paxos_core::{Kept, Msg, Node, Quorums, settled};
+use paxos_core_world::{kept::Kept, msg::Msg, quorum::Quorums};
+use paxos_core::Node;
+use paxos_core_model::settled::settled;
 use paxos_reference::label::Label;
 use paxos_reference::world::World;
 use program_rows::{numbered, owned};

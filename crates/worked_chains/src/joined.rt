@@ -14,8 +14,9 @@
 use crate::linked::ran;
 use alloc_check::Alloc;
 use c_checker_rules::CProgram;
-use cfarm_runs::accept;
-use chains::{ExactBaselines, Offers};
+use c_texts::accept;
+use chains::Offers;
+use chains_made::ExactBaselines;
 use cminor::lower;
 use constprop_check::ConstProp;
 use cse_check::Cse;

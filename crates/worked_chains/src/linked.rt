@@ -3,7 +3,7 @@
 use crate::told::Told;
 use c_checker_rules::CProgram;
 use cfarm_runs::Closing;
-use chains::{Maker, compile};
+use chains_made::{Maker, compile};
 use lang_base::Program;
 use linear::run;
 use std::alloc::{AllocError, Global};

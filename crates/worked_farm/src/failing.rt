@@ -10,9 +10,13 @@ ghost use Rattle.worked_farm.specs.Nodes.{HasThird};
 
 use crate::linking::{Node, all_linked, disks_of, empty_disk};
 use crate::turning::{back_over, joined, open_three, parted, turned, was_stopped};
-use acceptor_log::LogError;
+use acceptor_log_form::LogError;
 use durable_pair_memory::MemoryPair;
-use farm_nodes::{Farm, FarmError, Hall, Naming, OpenFault, Optimising, Source, optimisers_of};
+use farm_nodes::{Farm, FarmError};
+use rooms_hall::{Hall, Naming};
+use farm_nodes_seated::OpenFault;
+use farm_nodes_compiling::{Optimising, optimisers_of};
+use farm_nodes_source::Source;
 use program_rows::owned;
 use rand_pcg::Pcg32;
 use std::alloc::Global;

@@ -2,14 +2,19 @@
 
 use crate::linking::disks_of;
 use crate::turning::{open_three, turned};
-use acceptor_log::{Header, Log, Record};
-use alloc_check::EquationLists as PlaceLists;
+use acceptor_log_form::{Header, Record};
+use acceptor_log::Log;
+use alloc_check_verdict::EquationLists as PlaceLists;
 use constprop_check::FactLists;
 use cse_check::EquationLists;
 use durable_pair_memory::MemoryPair;
-use farm_nodes::{Farm, FarmNode, Hall, Naming, Oracles};
+use farm_nodes::Farm;
+use farm_nodes_node::FarmNode;
+use rooms_hall::{Hall, Naming};
+use farm_nodes_passes::Oracles;
 use lang_base::NoMemory;
-use linearize_check::{Linearize, Order, arrange, rising};
+use linearize_check::{Linearize, Order, arrange};
+use linearize_check_layout::rising;
 use offers::Offer;
 use program_rows::owned;
 use rand_pcg::Pcg32;

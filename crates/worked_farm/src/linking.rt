@@ -7,7 +7,12 @@ ghost use Rattle.lang.specs.Form.{IsProgram};
 ghost use Rattle.linear_language.specs.Function.{IsFunction};
 
 use durable_pair_memory::MemoryPair;
-use farm_nodes::{FarmNode, Naming, Optimisers, Source, linked, meet};
+use farm_nodes_node::FarmNode;
+use rooms_hall::Naming;
+use farm_nodes_compiling::Optimisers;
+use farm_nodes_source::Source;
+use farm_nodes_linked::linked;
+use farm_nodes_node_meeting::meet;
 use lang::write_program;
 use lang_base::{Program, Shown};
 use linear::run;

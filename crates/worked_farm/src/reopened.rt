@@ -6,9 +6,12 @@ ghost use Rattle.cminor_program_ranges.specs.Names.{HaveNames};
 
 use crate::linking::{Node, all_linked, crashed_of, empty_disk, first_linked};
 use crate::turning::{open_three, turned};
-use acceptor_log::LogError;
+use acceptor_log_form::LogError;
 use durable_pair_memory::MemoryPair;
-use farm_nodes::{Farm, FarmError, Hall, Naming, OpenFault, Optimisers, Optimising, optimisers_of};
+use farm_nodes::{Farm, FarmError};
+use rooms_hall::{Hall, Naming};
+use farm_nodes_seated::OpenFault;
+use farm_nodes_compiling::{Optimisers, Optimising, optimisers_of};
 use farm_nodes_offers::Fault;
 use program_rows::owned;
 use std::alloc::Global;

@@ -2,7 +2,7 @@
 
 ghost use Rattle.std.specs.Prelude.{◌<◌, IfSome};
 
-use farm_nodes::Quorums;
+use paxos_core_world::quorum::Quorums;
 use std::alloc::Global;
 
 /// What is done with a farm.

@@ -10,9 +10,12 @@ ghost use Rattle.worked_farm.specs.Nodes.{HasThird};
 
 use crate::linking::{all_linked, crashed_of, disks_of};
 use crate::turning::{back_over, joined, open_three, parted, refused_over, turned};
-use acceptor_log::LogError;
+use acceptor_log_form::LogError;
 use durable_pair_memory::MemoryPair;
-use farm_nodes::{Farm, Hall, Naming, Optimisers, Optimising, RestartFault, optimisers_of};
+use farm_nodes::Farm;
+use rooms_hall::{Hall, Naming};
+use farm_nodes_compiling::{Optimisers, Optimising, optimisers_of};
+use farm_nodes_restart_seat::RestartFault;
 use program_rows::owned;
 use rand_pcg::Pcg32;
 use std::alloc::Global;

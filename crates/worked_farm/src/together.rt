@@ -2,7 +2,10 @@
 
 use crate::linking::{all_linked, disks_of};
 use crate::turning::{TURNS, open_three};
-use farm_nodes::{Farm, Hall, Naming, Optimising, optimisers_of, run_threads};
+use farm_nodes::Farm;
+use rooms_hall::{Hall, Naming};
+use farm_nodes_compiling::{Optimising, optimisers_of};
+use farm_nodes_threads::run_threads;
 use parallel_validate::Gate;
 use program_rows::owned;
 use std::alloc::Global;

@@ -7,12 +7,16 @@ ghost use Rattle.cminor_program_ranges.specs.Names.{HaveNames};
 ghost use Rattle.farm_nodes_node.specs.Asked.{MayBeAsked};
 ghost use Rattle.worked_farm.specs.Nodes.{HasThird, IsThirdNode};
 
-use acceptor_log::LogError;
+use acceptor_log_form::LogError;
 use durable_model::Disk;
 use durable_pair::Pair;
-use farm_nodes::{
-    Farm, FarmError, FarmNode, Hall, Naming, Oracles, RestartFault, Turn, restart, run_threads,
-};
+use farm_nodes::{Farm, FarmError};
+use farm_nodes_node::{FarmNode, Turn};
+use rooms_hall::{Hall, Naming};
+use farm_nodes_passes::Oracles;
+use farm_nodes_restart_seat::RestartFault;
+use farm_nodes_returning::restart;
+use farm_nodes_threads::run_threads;
 use farm_nodes_offers::Fault;
 use parallel_validate::OpenGate;
 use std::alloc::Global;
@@ -41,7 +45,7 @@ pub(crate) fn open_three<P: Pair + Drop, O: Drop, H: Naming, R: Threads + Wait +
     ensures fit { IfOk result (λ farm. AllByRecursion (MayBeAsked P.Disk) farm.nodes.items) }
     ensures third { IfOk result (λ farm. HasThird farm.source.digest farm.nodes.items) }
 {
-    let Some(quorums) = farm_nodes::Quorums::majorities(3) else {
+    let Some(quorums) = paxos_core_world::quorum::Quorums::majorities(3) else {
         unreachable!();
     };
     match Farm::open(threads, alloc, hall, text, disks, oracles, seed, quorums) {

@@ -1,8 +1,10 @@
 //! Journals in which two functions have exchanged their rooms.
 
 use crate::answers::line_of;
-use acceptor_log::{Header, Log, Record};
-use cfarm_build::{Quorums, build};
+use acceptor_log_form::{Header, Record};
+use acceptor_log::Log;
+use paxos_core_world::quorum::Quorums;
+use cfarm_build::build;
 use cfarm_meter::Meter;
 use durable_model::Disk;
 use durable_pair_memory::MemoryPair;
@@ -10,9 +12,10 @@ use program_rows::owned;
 use std::alloc::Global;
 use std::sync::Wait;
 use std::thread::Threads;
-use worked_whole::{
-    Hall, Naming, Optimising, TURNS, empty_disk, optimisers_of, prepare, whole_disks,
-};
+use rooms_hall::{Hall, Naming};
+use farm_nodes_compiling::{Optimising, optimisers_of};
+use worked_whole::{TURNS, empty_disk, whole_disks};
+use farm_nodes_source::prepare;
 
 /// The same record in the room of the same pass of the other function, of the first two: they have the rooms 0 to 3, and 4 to 7.
 fn moved(entry: Record) -> Record {

@@ -14,7 +14,7 @@ use std::alloc::Global;
 use std::marker::Brand;
 use std::sync::Wait;
 use std::thread::Threads;
-use worked_whole::{Naming, Opened};
+use rooms_hall::{Naming, Opened};
 
 /// The answer, in a hall of its own.
 pub(crate) fn told<R: Threads + Wait + Sync>(

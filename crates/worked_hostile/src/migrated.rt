@@ -6,10 +6,11 @@ use program_rows::owned;
 use std::alloc::Global;
 use std::sync::Wait;
 use std::thread::Threads;
-use worked_whole::{
-    BYTES, CALLS, Farm, Hall, Naming, Node, Quorums, all_linked, bytes_of_all, crashed, crashed_of,
-    opened_on, prepare, ran_on, stays, whole,
-};
+use worked_whole::{BYTES, CALLS, Node, all_linked, bytes_of_all, crashed, crashed_of, opened_on, ran_on, stays, whole};
+use farm_nodes::Farm;
+use rooms_hall::{Hall, Naming};
+use paxos_core_world::quorum::Quorums;
+use farm_nodes_source::prepare;
 
 /// More calls of a pair than an opening makes.
 const MOST: usize = 100;

@@ -1,7 +1,7 @@
 //! What a row asks for.
 
 use std::alloc::Global;
-use worked_whole::Quorums;
+use paxos_core_world::quorum::Quorums;
 
 /// What a farm suffers.
 #[derive(Clone, Copy, Debug, PartialEq, Eq)]

@@ -4,7 +4,9 @@ use crate::answers::opening_told;
 use std::alloc::Global;
 use std::sync::Wait;
 use std::thread::Threads;
-use worked_whole::{Hall, Naming, Quorums, empty_disk, whole_disks};
+use rooms_hall::{Hall, Naming};
+use paxos_core_world::quorum::Quorums;
+use worked_whole::{empty_disk, whole_disks};
 
 /// The journals of the first two nodes are exchanged.
 pub(crate) fn exchanged_told<H: Naming + Send, R: Threads + Wait + Sync>(

@@ -6,9 +6,9 @@ use program_rows::owned;
 use std::alloc::Global;
 use std::sync::Wait;
 use std::thread::Threads;
-use worked_whole::{
-    Hall, Naming, Node, Quorums, all_linked, crashed_of, opened_on, ran_on, stays, whole,
-};
+use rooms_hall::{Hall, Naming};
+use worked_whole::{Node, all_linked, crashed_of, opened_on, ran_on, stays, whole};
+use paxos_core_world::quorum::Quorums;
 
 /// More calls of a disk than an opening makes.
 const MOST: usize = 100;

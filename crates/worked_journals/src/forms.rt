@@ -1,6 +1,7 @@
 //! The forms of headers, and journals read in the form that is asked for.
 
-use acceptor_log::{Header, LogError, Record, read};
+use acceptor_log_form::{Header, LogError, Record};
+use acceptor_log::read;
 use acceptor_log_old_form::read_old;
 use std::alloc::Global;
 

@@ -1,6 +1,7 @@
 //! Journals of earlier forms that are migrated on a pair of disks.
 
-use acceptor_log::{Header, Log, LogError};
+use acceptor_log_form::{Header, LogError};
+use acceptor_log::Log;
 use acceptor_log_migrating::migrate;
 use durable_pair::Pair;
 use durable_pair_memory::MemoryPair;

@@ -33,7 +33,7 @@ impl Explained for CseOracle {
 
 impl Explained for AllocOracle {
     fn fault_of(alloc: Global, parts: &PartsOf<Alloc>) -> Result<Option<Fault>, NoMemory> {
-        alloc_check::why(alloc, &parts.input, &parts.output, &parts.certificate)
+        alloc_check_verdict::why(alloc, &parts.input, &parts.output, &parts.certificate)
     }
 }
 

@@ -4,7 +4,7 @@ use crate::drawing::{drawing_of, drawn_text};
 use crate::proposing::{function_of, proposed};
 use alloc_check::baseline;
 use ltl::{Block, Body, Function};
-use machine::{Location, Move};
+use locations::{Location, Move};
 use oracle_alloc::AllocOracle;
 use program_rows::owned;
 use rtl_language::Rtl;

@@ -2,7 +2,8 @@
 
 ghost use Rattle.std.specs.Prelude.{◌≡◌, ◌<◌, ◌+◌, [], ◌∷◌, None, IfSome, IsTrue};
 
-use paxos_core::{Kept, Quorums, settled};
+use paxos_core_world::{kept::Kept, quorum::Quorums};
+use paxos_core_model::settled::settled;
 use rooms_function::{FunctionOffers, FunctionRoom, FunctionSeat};
 use rooms_seat::{Dealer, WordSeat};
 use std::alloc::Global;

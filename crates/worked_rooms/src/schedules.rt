@@ -3,7 +3,7 @@
 
 use crate::opened::seats_of;
 use crate::turns::{Turn, is_as_in};
-use paxos_core::{Kept, Quorums};
+use paxos_core_world::{kept::Kept, quorum::Quorums};
 use paxos_reference::world::World;
 use rand_core::utils::NextWord;
 use rand_pcg::Pcg32;

@@ -1,7 +1,7 @@
 //! Ballots are spent: the last one of a node is its highest below 65,536.
 
 use crate::opened::majority_seats;
-use paxos_core::Kept;
+use paxos_core_world::kept::Kept;
 use rooms_seat::WordSeat;
 
 /// Which node starts a ballot, and which it is, or the number of its refusal.

@@ -5,7 +5,7 @@ ghost use Rattle.std.specs.Prelude.{◌<◌, ◌≤◌, IsTrue};
 ghost use Rattle.rooms_function.specs.Pass.{words_in};
 
 use crate::opened::{function_seats, majority_seats};
-use paxos_core::Kept;
+use paxos_core_world::kept::Kept;
 use rooms_function::FunctionSeat;
 use rooms_seat::WordSeat;
 use std::thread::{self, Threads};

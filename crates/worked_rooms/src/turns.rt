@@ -4,7 +4,8 @@
 ghost use Rattle.std.specs.Prelude.{◌<◌};
 ghost use Rattle.rooms_state.specs.Would.{IsAmong};
 
-use paxos_core::{Kept, Msg, Step};
+use paxos_core_world::{kept::Kept, msg::Msg};
+use paxos_core_law::step::Step;
 use paxos_reference::label::Label;
 use paxos_reference::world::World;
 use rooms_rule::acceptor::AcceptorWord;

@@ -1,6 +1,6 @@
 //! Words as numbers.
 
-use paxos_core::Vote;
+use paxos_core_world::vote::Vote;
 use rooms_rule::acceptor::AcceptorWord;
 use rooms_rule::proposer::ProposerWord;
 

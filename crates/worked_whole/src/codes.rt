@@ -1,8 +1,10 @@
 //! The code that nodes link, by functions.
 
 use crate::running::Node;
-use farm_nodes::{Naming, has_learned_all, meet};
-use farm_nodes_passes::NumberedSeat;
+use rooms_hall::Naming;
+use farm_nodes_linked::has_learned_all;
+use farm_nodes_node_meeting::meet;
+use rooms_numbered::NumberedSeat;
 use farm_nodes_seat_meeting::learned_offer;
 use std::alloc::Global;
 

@@ -3,7 +3,7 @@
 use crate::running::Node;
 use durable_model::Disk;
 use durable_pair_memory::MemoryPair;
-use farm_nodes::Naming;
+use rooms_hall::Naming;
 use rand_pcg::Pcg32;
 use std::alloc::Global;
 

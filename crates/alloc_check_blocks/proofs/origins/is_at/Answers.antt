@@ -1,5 +1,5 @@
-use Rattle.machine.specs.LocationEq.TheImpl.Laws as location_laws
-use Rattle.machine.proofs.LocationsEqual.{tells_decides, location_tells}
+use Rattle.locations.specs.contracts.location.LocationEq.TheImpl.Laws as location_laws
+use Rattle.locations.proofs.Equal.{tells_decides, location_tells}
 use Rattle.alloc_check_blocks.proofs.origins.is_at.Goals as goal
 
 pub returns : goal.returns

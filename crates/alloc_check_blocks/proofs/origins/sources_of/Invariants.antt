@@ -1,5 +1,5 @@
 use Rattle.std.proofs.Common.{◌≡◌, take}
-use Rattle.machine.specs.Location.{Location}
+use Rattle.locations.specs.declared.location.Location.{Location}
 use Rattle.alloc_check_rules.specs.Equations.{back}
 use Rattle.alloc_check_blocks.specs.Origins.{origin}
 use Rattle.alloc_check_blocks.proofs.origins.sources_of.Given as goal

@@ -2,7 +2,7 @@ use Rattle.std.proofs.Common.{◌≡◌, ◌≤◌, ◌++◌, length, take, true
 use Rattle.std.specs.List.{list_any}
 use Rattle.std.proofs.lemmas.Bool.{not-true, not-false}
 use Rattle.std.proofs.lemmas.List.{take_all}
-use Rattle.alloc_check_blocks.specs.Equations.{demand}
+use Rattle.alloc_check_rules.specs.Equations.{demand}
 use Rattle.alloc_check_fill.specs.Fill.{is_refused, demands}
 use Rattle.alloc_check_fill.proofs.Steps.{demanded, so_far_none, so_far_more, refused_here}
 use Rattle.alloc_check_fill.proofs.needed.push_demands.Goals as goal

@@ -1,8 +1,8 @@
 use Rattle.std.proofs.Common.{◌≡◌, ◌≤◌, ◌++◌, length, sym, subst, arith}
 use Rattle.std.specs.Prelude.{map}
 use Rattle.std.proofs.lemmas.List.{append-nil, take_all}
-use Rattle.alloc_check_blocks.specs.Equations.{back_equation}
-use Rattle.alloc_check_blocks.specs.Pairs.{equations_of}
+use Rattle.alloc_check_rules.specs.Equations.{back_equation}
+use Rattle.alloc_check_rules.specs.Pairs.{equations_of}
 use Rattle.alloc_check_fill.proofs.Pairs.{pairs_few, past_of, mapped_more}
 use Rattle.alloc_check_fill.proofs.uses.push_each.Goals as goal
 

@@ -1,7 +1,7 @@
 use Rattle.std.proofs.Common.{length}
-use Rattle.alloc_check_laws.proofs.Verdicts.{told-exact}
-use Rattle.alloc_check_lists.specs.Rules.{IsRightAt}
-use Rattle.alloc_check_laws.specs.Allocated.{filled, HasForm}
+use Rattle.rtl_passes.proofs.Verdicts.{told-exact}
+use Rattle.alloc_check_rules.specs.Rules.{IsRightAt}
+use Rattle.alloc_check_filled.specs.Allocated.{filled, HasForm}
 use Rattle.alloc_check_verdict.proofs.verdict.check.Goals as goal
 
 pub returns : goal.returns

@@ -1,8 +1,8 @@
 use Rattle.std.proofs.Common.{◌≡◌, suc, ◌-◌, ◌<◌, ◌≤◌, [], length, replicate, drop, sym, ap, ◌∙◌, subst, arith}
 use Rattle.std.proofs.lemmas.Bool.{iff_false}
-use Rattle.alloc_check_laws.specs.Handing.{spread_on}
-use Rattle.alloc_check_lists.specs.Rules.{IsRightAt}
-use Rattle.alloc_check_laws.specs.Allocated.{filled}
+use Rattle.rtl_passes_marks.specs.Handing.{spread_on}
+use Rattle.alloc_check_rules.specs.Rules.{IsRightAt}
+use Rattle.alloc_check_filled.specs.Allocated.{filled}
 use Rattle.alloc_check_verdict.specs.Walk.{IsSaid, IsKnownFrom}
 use Rattle.alloc_check_verdict.proofs.Known.{rows_said, known_first, marked_rises}
 use Rattle.alloc_check_verdict.proofs.Lowest.{tells_right, tells_wrong, tells_last, take_all}

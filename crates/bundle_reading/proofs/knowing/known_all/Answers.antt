@@ -3,7 +3,7 @@ use Rattle.std.proofs.Common.{◌≡◌, [], ◌∷◌, ◌++◌, length, sym, a
 use Rattle.std.specs.List.{AllByRecursion}
 use Rattle.std.specs.Vec.Iter.{into_iter_items}
 use Rattle.std.proofs.lemmas.List.{nil_from_length}
-use Rattle.chains.specs.Baselines.{AreAccepted}
+use Rattle.chains.specs.Accepted.{AreAccepted}
 use Rattle.bundle_reading.specs.Read.{offers_in, offers_of}
 use Rattle.bundle_reading.proofs.knowing.known_all.Goals as goal
 

@@ -1,7 +1,7 @@
 use Rattle.std.proofs.Common.{◌≡◌, ◌++◌, length}
 use Rattle.std.specs.List.{AllByRecursion}
 use Rattle.std.specs.Vec.Iter.{into_iter_items, into_iter_len}
-use Rattle.chains.specs.Baselines.{AreAccepted}
+use Rattle.chains.specs.Accepted.{AreAccepted}
 use Rattle.bundle_reading.specs.Read.{offers_in}
 use Rattle.bundle_reading.proofs.knowing.known_all.Given as goal
 

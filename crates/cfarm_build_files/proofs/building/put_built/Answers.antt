@@ -1,6 +1,6 @@
 use Rattle.std.proofs.Common.{refl, subst, ◌∙◌}
 use Rattle.std.specs.Io.KnownBytes.{Appends}
-use Rattle.cfarm_build.specs.Carried.{bundle_of}
+use Rattle.cfarm_build_linking.specs.Carried.{bundle_of}
 use Rattle.cfarm_output.specs.Begun.{IsBegun}
 use Rattle.cfarm_build_folder.specs.Putting.{PlacesBoth}
 use Rattle.cfarm_build_files.proofs.Putting.{no_line, stopped}

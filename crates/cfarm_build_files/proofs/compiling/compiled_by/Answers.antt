@@ -1,10 +1,10 @@
 use Rattle.std.proofs.Common.{ap, subst, sym, ◌∙◌, arith}
 use Rattle.cfarm_build.specs.Built.{IsBuilt}
-use Rattle.cfarm_build.specs.BuildError.{BuildError}
-use Rattle.cfarm_build.specs.Carried.{bundle_of}
-use Rattle.cfarm_build.specs.Quorum.{Sizes}
+use Rattle.cfarm_build_faults.specs.declared.error.BuildError.{BuildError}
+use Rattle.cfarm_build_linking.specs.Carried.{bundle_of}
+use Rattle.paxos_core_world.specs.Quorum.{Sizes}
 use Rattle.cfarm_build.specs.Refused.{IsUnbuilt}
-use Rattle.cfarm_build.proofs.Carrying.{carried}
+use Rattle.cfarm_build_linking.proofs.Carrying.{carried}
 use Rattle.cfarm_options.specs.Sizes.{count_of}
 use Rattle.cfarm_build_folder.proofs.Given.{given_before}
 use Rattle.cfarm_build_folder.specs.declared.error.BuildingError.TheVariants.{Build}

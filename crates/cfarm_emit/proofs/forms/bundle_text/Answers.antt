@@ -1,7 +1,7 @@
 -- The bundle of offers that are made.
 use Rattle.std.proofs.Common.{arith, subst}
 use Rattle.std.proofs.lemmas.Result.{IfOk-weaker}
-use Rattle.bundle_offers.specs.Texts.{IsBundleOf}
+use Rattle.bundle_reading.specs.Texts.{IsBundleOf}
 use Rattle.cfarm_emit.specs.Made.{AreMade}
 use Rattle.cfarm_emit.proofs.Making.{as_many_from}
 use Rattle.cfarm_emit.proofs.forms.bundle_text.Goals as goal

@@ -1,7 +1,7 @@
 -- The bundle of offers is that of their texts.
 use Rattle.std.proofs.Common.{arith, ap, length, refl}
 use Rattle.std.proofs.lemmas.List.{length-map}
-use Rattle.bundle_offers.specs.Texts.{texts_of}
+use Rattle.bundle_reading.specs.Texts.{texts_of}
 use Rattle.cfarm_emit.proofs.Outputs.{bundle_of}
 use Rattle.cfarm_emit.proofs.forms.offers_text.Goals as goal
 

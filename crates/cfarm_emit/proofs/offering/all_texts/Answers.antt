@@ -1,8 +1,8 @@
 use Rattle.std.proofs.Common.{◌≡◌, sym, ap, ◌∙◌, subst}
 use native.Mathlib.Numerals.{unary_clauses}
 use Rattle.bundle_form.specs.Form.{TextsFit}
-use Rattle.bundle_offers.specs.Lent.{lent_offers}
-use Rattle.bundle_offers.specs.Texts.{texts_of, OffersFit}
+use Rattle.bundle_reading.specs.LentOffers.{lent_offers}
+use Rattle.bundle_reading.specs.Texts.{texts_of, OffersFit}
 use Rattle.cfarm_emit.proofs.Outputs.{all_push, all_taken, map_next, same_lent}
 use Rattle.cfarm_emit.proofs.offering.all_texts.Goals as goal
 

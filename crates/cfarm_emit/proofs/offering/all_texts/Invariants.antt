@@ -1,7 +1,7 @@
 use Rattle.std.proofs.Common.{◌≡◌, take, map}
 use Rattle.std.specs.List.{AllByRecursion}
 use Rattle.bundle_form.specs.Form.{TextsFit}
-use Rattle.bundle_offers.specs.Texts.{texts_of, OffersFit}
+use Rattle.bundle_reading.specs.Texts.{texts_of, OffersFit}
 use Rattle.cfarm_emit.proofs.offering.all_texts.Given as goal
 
 -- the texts of the first functions' offers

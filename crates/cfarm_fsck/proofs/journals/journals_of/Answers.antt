@@ -4,7 +4,7 @@ use Rattle.std.proofs.lemmas.Option.{slice_get_read}
 use Rattle.acceptor_log_form.specs.declared.header.Header.{Header}
 use Rattle.acceptor_log_form.specs.declared.errors.LogError.{LogError}
 use Rattle.farm_nodes_disks.specs.Journals.{header_of}
-use Rattle.farm_nodes_seated.proofs.Nodes.{all_made, made_more}
+use Rattle.farm_nodes_stored.proofs.Nodes.{all_made, made_more}
 use Rattle.farm_nodes_seated.proofs.Told.{journals_fault, no_refusal, no_room}
 use Rattle.cfarm_fsck_journals.specs.Listed.{AreListedIn, AreRefusedIn}
 use Rattle.cfarm_fsck.specs.Folder.{IsJournalIn, IsRefusedFile}

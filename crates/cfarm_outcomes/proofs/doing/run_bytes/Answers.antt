@@ -1,7 +1,7 @@
 use Rattle.std.specs.Prelude.{false, codes}
 use Rattle.std.proofs.Common.{refl, inl, inr}
-use Rattle.cfarm_hints.specs.Closings.{closing_line}
-use Rattle.cfarm_hints.specs.ExecLines.{exec_line}
+use Rattle.cfarm_runs.specs.Closings.{closing_line}
+use Rattle.cfarm_runs.specs.ExecLines.{exec_line}
 use Rattle.cfarm_outcomes.specs.Outcomes.{closed_where, exec_fault}
 use Rattle.cfarm_telling.proofs.Answering.{among, never_amid}
 use Rattle.cfarm_outcomes.proofs.doing.run_bytes.Goals as goal

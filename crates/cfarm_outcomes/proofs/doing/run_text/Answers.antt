@@ -1,5 +1,5 @@
 use Rattle.std.proofs.Common.{refl, inl, inr}
-use Rattle.cfarm_hints.specs.Closings.{closing_line}
+use Rattle.cfarm_runs.specs.Closings.{closing_line}
 use Rattle.cfarm_outcomes.specs.Outcomes.{closed, text_fault}
 use Rattle.cfarm_telling.proofs.Answering.{among, never_amid}
 use Rattle.cfarm_outcomes.proofs.doing.run_text.Goals as goal

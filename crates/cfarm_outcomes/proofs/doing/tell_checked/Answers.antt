@@ -1,6 +1,6 @@
 use Rattle.std.specs.Prelude.{false, codes}
 use Rattle.std.proofs.Common.{refl}
-use Rattle.cfarm_hints.specs.TextLines.{gcc_line}
+use Rattle.cfarm_runs.specs.TextLines.{gcc_line}
 use Rattle.cfarm_telling.proofs.Answering.{among}
 use Rattle.cfarm_outcomes.proofs.doing.tell_checked.Goals as goal
 

@@ -1,6 +1,6 @@
 use Rattle.std.specs.Prelude.{false}
 use Rattle.std.proofs.Common.{refl, ◌∙◌}
-use Rattle.cfarm_hints.specs.TextLines.{error_line}
+use Rattle.cfarm_runs.specs.TextLines.{error_line}
 use Rattle.cfarm_telling.proofs.Answering.{among}
 use Rattle.cfarm_outcomes.proofs.doing.tell_fault.Goals as goal
 

@@ -1,6 +1,6 @@
 use Rattle.std.specs.Prelude.{false}
 use Rattle.std.proofs.Common.{refl, inl, inr, ◌∙◌}
-use Rattle.cfarm_build_files.specs.Answers.{building_line}
+use Rattle.cfarm_build_folder.specs.Answers.{building_line}
 use Rattle.cfarm_program.specs.Built.{building_fault}
 use Rattle.cfarm_telling.specs.Telling.{quiet}
 use Rattle.cfarm_telling.proofs.Answering.{among}

@@ -1,6 +1,6 @@
 -- The first fault is told by its function's name.
-use Rattle.cfarm_verify_comparing.specs.Read.{offers_in}
-use Rattle.cfarm_verify_comparing.proofs.Standings.{fault_below}
+use Rattle.bundle_reading.specs.Read.{offers_in}
+use Rattle.bundle_offers.proofs.Standings.{fault_below}
 use Rattle.cfarm_verify.proofs.Told.{named_fault}
 use Rattle.cfarm_verify.proofs.checking.all_stand.Goals as goal
 

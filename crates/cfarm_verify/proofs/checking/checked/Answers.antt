@@ -2,8 +2,8 @@
 use Rattle.std.proofs.Common.{◌≡◌, length, refl, sym, ap, ◌∙◌, subst, arith}
 use Rattle.std.proofs.lemmas.List.{length-map}
 use Rattle.linker.specs.Chains.{names_of}
-use Rattle.cfarm_verify_comparing.specs.Read.{offers_in, offers_of}
-use Rattle.cfarm_verify_comparing.specs.Standing.{AllStand}
+use Rattle.bundle_reading.specs.Read.{offers_in, offers_of}
+use Rattle.bundle_offers.specs.Standing.{AllStand}
 use Rattle.cfarm_verify.specs.Checked.{IsFaulty}
 use Rattle.cfarm_verify.proofs.Told.{faulty_unchecked, of_text, other_unchecked}
 use Rattle.cfarm_verify.proofs.checking.checked.Goals as goal

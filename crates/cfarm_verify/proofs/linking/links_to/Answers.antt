@@ -4,8 +4,8 @@ use Rattle.lang_base.specs.Keeps.{Keeps}
 use Rattle.rtl_language.specs.Meaning as rtl
 use Rattle.linear_language.specs.Meaning as linear
 use Rattle.linker.specs.Chains.{names_of}
-use Rattle.cfarm_verify_comparing.specs.Offered.{ends_of, linked_offers}
-use Rattle.cfarm_verify_comparing.specs.Read.{offers_in}
+use Rattle.chains.specs.Offered.{ends_of, linked_offers}
+use Rattle.bundle_reading.specs.Read.{offers_in}
 use Rattle.cfarm_verify_comparing.proofs.Compared.{other_below}
 use Rattle.cfarm_verify_comparing.proofs.Ends.{ends_many}
 use Rattle.cfarm_verify.proofs.linking.links_to.Goals as goal

@@ -7,7 +7,7 @@ use Rattle.c_program.specs.Meaning.{crun}
 use Rattle.c_checker_rules.specs.Checked.{program_tree}
 use Rattle.rtl_language.specs.Function.{IsFunction}
 use Rattle.rtl_language.specs.Meaning as rtl
-use Rattle.cfarm_verify_comparing.specs.Read.{offers_in, offers_of}
+use Rattle.bundle_reading.specs.Read.{offers_in, offers_of}
 use Rattle.cfarm_verify.proofs.Exact.{unchecked_wants}
 use Rattle.cfarm_verify.proofs.Named.{are_names}
 use Rattle.cfarm_verify.proofs.Verified.{unverified_by, verified_by}

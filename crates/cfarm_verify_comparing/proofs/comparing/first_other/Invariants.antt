@@ -1,6 +1,6 @@
 use Rattle.std.proofs.Common.{◌≡◌, length, take}
-use Rattle.bundle_offers.specs.Offered.{ends_of}
-use Rattle.bundle_offers.specs.Read.{offers_in}
+use Rattle.chains.specs.Offered.{ends_of}
+use Rattle.bundle_reading.specs.Read.{offers_in}
 use Rattle.cfarm_verify_comparing.proofs.comparing.first_other.Given as goal
 
 -- as many functions, and the first ones are the same

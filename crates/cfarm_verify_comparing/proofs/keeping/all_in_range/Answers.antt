@@ -2,7 +2,7 @@
 use Rattle.std.proofs.Common.{◌≤◌, length, subst, arith}
 use Rattle.std.specs.Prelude.{All}
 use Rattle.std.proofs.lemmas.List.Elements.{All-more}
-use Rattle.bundle_offers.specs.Read.{offers_of}
+use Rattle.bundle_reading.specs.Read.{offers_of}
 use Rattle.cfarm_verify_comparing.specs.Ranges.{AreInRange}
 use Rattle.cfarm_verify_comparing.proofs.Ends.{whole}
 use Rattle.cfarm_verify_comparing.proofs.keeping.all_in_range.Goals as goal

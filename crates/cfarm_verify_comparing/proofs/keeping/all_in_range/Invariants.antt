@@ -1,6 +1,6 @@
 use Rattle.std.proofs.Common.{take}
 use Rattle.std.specs.Prelude.{All}
-use Rattle.bundle_offers.specs.Read.{offers_of}
+use Rattle.bundle_reading.specs.Read.{offers_of}
 use Rattle.cfarm_verify_comparing.specs.Ranges.{AreInRange}
 use Rattle.cfarm_verify_comparing.proofs.keeping.all_in_range.Given as goal
 

@@ -1,6 +1,6 @@
 -- The four passes, one behind the other.
 use Rattle.std.proofs.lemmas.List.Elements.{recursion_from_All}
-use Rattle.bundle_offers.specs.Read.{offers_in, offers_of}
+use Rattle.bundle_reading.specs.Read.{offers_in, offers_of}
 use Rattle.cfarm_verify_comparing.specs.Ranges.{AreInRange}
 use Rattle.cfarm_verify_comparing.proofs.Between.{as_offers, keeps_by}
 use Rattle.cfarm_verify_comparing.proofs.keeping.linked_keeps.Goals as goal

@@ -9,19 +9,19 @@ use Rattle.rtl_language.specs.Function.{IsFunction}
 use Rattle.rtl_language.specs.Meaning.{run}
 use Rattle.cfarm_verify_reading.proofs.preparing.made_ready.Goals as goal
 
-pub made_meanwhile-requires-clause-names : goal.made_meanwhile-requires-clause-names
-made_meanwhile-requires-clause-names g c κs lives =
+pub made_beside-requires-clause-names : goal.made_beside-requires-clause-names
+made_beside-requires-clause-names g c κs lives =
     let it = c.in-Ok.ensures.accepted in
     subst HaveNames (sym it.2) (c.accepted_has_names.ensures c.args.text.now it.1.tokens it.0 it.1.cut it.1.spelled)
 
 pub returns-in-Ok-shared-clause-begun : goal.returns-in-Ok-shared-clause-begun
 returns-in-Ok-shared-clause-begun g c =
     let is = c.in-Ok-shared.ensures in
-    let made = c.in-Ok-made_meanwhile.ensures in
+    let made = c.in-Ok-made_beside.ensures in
     record {
       accepted = c.in-Ok.ensures.accepted;
       translated = is ∙ made.same;
-      keeps = subst (λ b. Keeps (crun (program_tree c.in-Ok.both.0)) (run b)) (sym is) made.keeps;
+      keeps = subst (λ b. Keeps (crun (program_tree c.in-Ok.program)) (run b)) (sym is) made.keeps;
       fits = subst (λ b. IsProgram IsFunction b) (sym is) made.fits;
       only = c.in-Ok.ensures.only;
     }

@@ -1,4 +1,4 @@
-use Rattle.constprop_check_rules.proofs.MachineEqual.{tells_decides}
+use Rattle.machine.proofs.Equal.{tells_decides}
 use Rattle.cse_check_rules.specs.contracts.equation.EquationEq.TheImpl.Laws as equation_laws
 use Rattle.cse_check_rules.proofs.Equal.{equation_tells}
 use Rattle.cse_check_rules.proofs.same.is_same.Goals as goal

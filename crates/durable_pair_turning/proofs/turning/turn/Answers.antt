@@ -1,6 +1,6 @@
 -- The old disk counts until the new text is durable.
 use Rattle.std.proofs.Common.{List, ℕ, [], ◌∷◌, ◌∙◌, sym, ap, get_or}
-use Rattle.durable_model.specs.Writes.{overwritten}
+use Rattle.durable_model_writes.specs.Writes.{overwritten}
 use Rattle.durable_model.specs.Moments.{composed}
 use Rattle.durable_pair.proofs.Results.{on_ok, both_on_ok}
 use Rattle.durable_pair_turning.specs.Turning.{LeavesOld, Spends, Turns}

@@ -1,7 +1,7 @@
 use Rattle.std.proofs.Common.{sym, subst}
-use Rattle.farm_nodes_order.specs.Act.{Act}
-use Rattle.farm_nodes_order.specs.Would.{Acted}
-use Rattle.farm_nodes_order.proofs.RoomsStateTold.{acted_start, acted_promise, acted_propose, acted_accept}
+use Rattle.rooms_state.specs.declared.act.Act.{Act}
+use Rattle.rooms_state.specs.Would.{Acted}
+use Rattle.rooms_state.proofs.Told.{acted_start, acted_promise, acted_propose, acted_accept}
 use Rattle.farm_nodes_acting.proofs.acting.take.Goals as goal
 
 pub returns-in-Start : goal.returns-in-Start

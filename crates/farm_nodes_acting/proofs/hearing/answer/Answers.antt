@@ -1,5 +1,5 @@
 use Rattle.std.proofs.Common.{◌≡◌, ◌≢◌, ◌<◌, ℕ, inl, inr, sym, ◌∙◌, subst, arith}
-use Rattle.farm_nodes_order.specs.SeatState.{SeatState}
+use Rattle.rooms_state.specs.SeatState.{SeatState}
 use Rattle.farm_nodes_acting.specs.Quiet.{IsQuiet}
 use Rattle.farm_nodes_acting.proofs.Answering.{heard_promising, heard_through, heard_voted, voted_or, quiet_voted}
 use Rattle.farm_nodes_acting.proofs.Results.{goes_on}

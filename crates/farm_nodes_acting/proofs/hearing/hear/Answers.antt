@@ -1,5 +1,5 @@
 use Rattle.std.proofs.Common.{◌≡◌, ◌≢◌, ℕ, sym, ap, arith}
-use Rattle.farm_nodes_order.specs.SeatState.{SeatState}
+use Rattle.rooms_state.specs.SeatState.{SeatState}
 use Rattle.farm_nodes_acting.proofs.Answering.{heard_through, heard_proposer, heard_acceptor, quiet_proposer, quiet_acceptor}
 use Rattle.farm_nodes_order.proofs.Looked.{looked_proposer, looked_acceptor}
 use Rattle.farm_nodes_order.proofs.Orders.{same_turned}

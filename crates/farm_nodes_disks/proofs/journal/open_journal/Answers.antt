@@ -1,7 +1,7 @@
 -- What is read first changes nothing, so what the journal's call says of the disk holds of the disk as it was given.
 use Rattle.std.proofs.Common.{ℕ, List, [], Err, sym, ap, subst, ◌∙◌, arith}
 use Rattle.durable_model.specs.Honest.{risen_within}
-use Rattle.durable_model.specs.Writes.{overwritten}
+use Rattle.durable_model_writes.specs.Writes.{overwritten}
 use Rattle.acceptor_log_form.specs.Text.{journal_text, StandsFor}
 use Rattle.acceptor_log_form.specs.Fault.{HasFault}
 use Rattle.farm_nodes_disks.proofs.InFront.{when_true, when_false, both_ways, unchanged_over, read_moment, and_then}

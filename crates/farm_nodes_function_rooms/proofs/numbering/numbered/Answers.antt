@@ -4,7 +4,7 @@ use Rattle.std.specs.Vec.Iter.{into_iter_items}
 use Rattle.std.proofs.lemmas.List.{map_push}
 use Rattle.std.proofs.lemmas.List.Elements.{All-nil, All-push, All-same, All-head, All-tail}
 use Rattle.rooms_hall.specs.Claimed.{Claimed}
-use Rattle.farm_nodes_passes.specs.FunctionOf.{function_of}
+use Rattle.rooms_numbered.specs.FunctionOf.{function_of}
 use Rattle.farm_nodes_lists.proofs.Columns.{moved_on, all_there, none_left}
 use Rattle.farm_nodes_function_rooms.proofs.OneRoom.{claimed_by_all, numbered_there}
 use Rattle.farm_nodes_function_rooms.proofs.numbering.numbered.Goals as goal

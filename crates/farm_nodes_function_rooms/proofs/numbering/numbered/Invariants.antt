@@ -1,6 +1,6 @@
 use Rattle.std.proofs.Common.{◌≡◌, ◌++◌, length, map, All}
 use Rattle.std.specs.Vec.Iter.{into_iter_items, into_iter_len}
-use Rattle.farm_nodes_passes.specs.FunctionOf.{function_of}
+use Rattle.rooms_numbered.specs.FunctionOf.{function_of}
 use Rattle.farm_nodes_function_rooms.proofs.numbering.numbered.Given as goal
 
 -- the seats so far have the claim, which is one of the rooms of all

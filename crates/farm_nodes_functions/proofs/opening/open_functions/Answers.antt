@@ -1,7 +1,7 @@
 -- The rooms of one function more are open.
 use Rattle.std.proofs.Common.{◌≡◌, ℕ, length, All, sym, subst, ◌∙◌, arith}
 use Rattle.std.proofs.lemmas.List.{length-map}
-use Rattle.farm_nodes_function_rooms.specs.Which.TheVariants.{Constants, Expressions, Allocation, Order}
+use Rattle.farm_nodes_passes.specs.declared.which.Which.TheVariants.{Constants, Expressions, Allocation, Order}
 use Rattle.farm_nodes_lists.specs.Rows.{rows_of}
 use Rattle.farm_nodes_functions.proofs.Rooms.{all_left_next, before_first, before_room, none_open, none_taken, offers_here, open_next, settled_again}
 use Rattle.farm_nodes_functions.proofs.opening.open_functions.Goals as goal

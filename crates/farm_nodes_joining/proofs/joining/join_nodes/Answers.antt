@@ -2,10 +2,10 @@
 use Rattle.std.proofs.Common.{◌≡◌, None, length, sym, ap, subst, ◌∙◌, arith, rules}
 use Rattle.std.specs.Arc.{arc_value}
 use Rattle.std.proofs.lemmas.List.Elements.{All-weaker}
-use Rattle.farm_nodes_node.specs.Fours.{fours_of}
+use Rattle.farm_nodes_passes.specs.Fours.{fours_of}
 use Rattle.farm_nodes_node.specs.Waiting.{IsWaiting}
 use Rattle.farm_nodes_joining.proofs.Moving.{all_of_both, as_long, made_same, made_shown, made_so, of_parts}
-use Rattle.farm_nodes_node.specs.Texts.{pass_texts}
+use Rattle.farm_nodes_passes.specs.Texts.{pass_texts}
 use Rattle.farm_nodes_joining.proofs.Sound.{all_asked}
 use Rattle.farm_nodes_joining.proofs.joining.join_nodes.Goals as goal
 

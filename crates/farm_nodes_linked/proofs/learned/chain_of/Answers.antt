@@ -1,6 +1,6 @@
 -- Functions of the passes may be sent to other threads.
 use denote.Param.Send.{sendable}
-use Rattle.farm_nodes_seat_meeting.proofs.Sent.{function_send, function_sync}
+use Rattle.rooms_function.proofs.Sent.{function_send, function_sync}
 use Rattle.farm_nodes_linked.proofs.learned.chain_of.Goals as goal
 
 pub learned_offer-requires-3-send-P-Out-Fun : goal.learned_offer-requires-3-send-P-Out-Fun

@@ -1,5 +1,5 @@
 use denote.Param.Send.{sendable}
-use Rattle.farm_nodes_turn.proofs.Sent.{function_send, function_sync}
+use Rattle.rooms_function.proofs.Sent.{function_send, function_sync}
 use Rattle.farm_nodes_node.proofs.learning.learned_in.Goals as goal
 
 pub returns-in-Constants : goal.returns-in-Constants

@@ -5,7 +5,7 @@ use Rattle.farm_nodes_seat_meeting.specs.Held.{held_of}
 use Rattle.farm_nodes_node.specs.declared.halted.Halted.{Halted}
 use Rattle.farm_nodes_node.specs.Waiting.{IsWaiting}
 use Rattle.farm_nodes_node.proofs.Whole.{none_of, not_none}
-use Rattle.farm_nodes_node.specs.Texts.{pass_texts}
+use Rattle.farm_nodes_passes.specs.Texts.{pass_texts}
 use Rattle.farm_nodes_node_meeting.proofs.Kept.{first_kept, second_kept, met_as, sound_kept}
 use Rattle.farm_nodes_node_meeting.proofs.meeting.meet.Goals as goal
 

@@ -1,8 +1,8 @@
 use Rattle.std.proofs.Common.{refl, sym, ap, subst}
 use Rattle.offers.specs.Text.{text_of}
 use Rattle.acceptor_log_form.specs.Text.{room_of}
-use Rattle.farm_nodes_acting.specs.Acknowledged.{acknowledged}
-use Rattle.farm_nodes_acting.specs.SeatState.{SeatState}
+use Rattle.acceptor_log.specs.Acknowledged.{acknowledged}
+use Rattle.rooms_state.specs.SeatState.{SeatState}
 use Rattle.farm_nodes_acting.proofs.Runs.{one, perhaps}
 use Rattle.farm_nodes_acting.proofs.Steps.{more}
 use Rattle.farm_nodes_offers.specs.declared.halt.Halt.{Halt}

@@ -1,8 +1,8 @@
 use Rattle.std.proofs.Common.{◌||◌, option_copied, Some, sym, ◌∙◌, subst}
 use Rattle.acceptor_log.specs.Acknowledged.{acknowledged}
-use Rattle.farm_nodes_leading.proofs.Results.{Grown, grown_on}
+use Rattle.farm_nodes_acting.proofs.Results.{Grown, grown_on}
 use Rattle.farm_nodes_offers.specs.declared.halt.Halt.{Halt}
-use Rattle.farm_nodes_leading.specs.Noted.{pending_of}
+use Rattle.farm_nodes_acting.specs.Noted.{pending_of}
 use Rattle.farm_nodes_offers.specs.Halted.{fault_by_journal, left_over, HasHaltCause}
 use Rattle.farm_nodes_offers.specs.Pending.{IsOfferText, MayPendOn}
 use Rattle.farm_nodes_offers.specs.Told.{IsOwnText, TellNew}

@@ -1,5 +1,5 @@
 use denote.Param.Send.{sendable}
-use Rattle.farm_nodes_restart_records.proofs.Sent.{function_send, function_sync}
+use Rattle.rooms_function.proofs.Sent.{function_send, function_sync}
 use Rattle.farm_nodes_restart.proofs.fours.forget_in.Goals as goal
 
 pub forget-requires-3-send-P-Out-Fun : goal.forget-requires-3-send-P-Out-Fun

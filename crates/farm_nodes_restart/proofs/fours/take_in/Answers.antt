@@ -1,9 +1,9 @@
 use denote.Param.Send.{sendable}
 use Rattle.std.proofs.Common.{refl, ap}
 use Rattle.rooms.specs.SeatValue.{SeatValue}
-use Rattle.farm_nodes_restart_records.specs.Fours.{four_of}
-use Rattle.farm_nodes_restart_records.specs.Offers.{ConstantsOffer, ExpressionsOffer, AllocationOffer, OrderOffer}
-use Rattle.farm_nodes_restart_records.proofs.Sent.{function_send, function_sync}
+use Rattle.farm_nodes_passes.specs.Fours.{four_of}
+use Rattle.farm_nodes_passes.specs.Offers.{ConstantsOffer, ExpressionsOffer, AllocationOffer, OrderOffer}
+use Rattle.rooms_function.proofs.Sent.{function_send, function_sync}
 use Rattle.farm_nodes_restart.proofs.Afterwards.{err_with, ok_with}
 use Rattle.farm_nodes_restart.proofs.fours.take_in.Goals as goal
 

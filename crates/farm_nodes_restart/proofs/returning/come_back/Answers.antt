@@ -2,10 +2,10 @@ use Rattle.std.proofs.Common.{◌*◌, List, length, sym, ◌∙◌, subst, inr}
 use Rattle.acceptor_log_form.specs.declared.record.Record.{Record}
 use Rattle.acceptor_log_form.specs.Order.{AreInOrder}
 use Rattle.acceptor_log_form.specs.Text.{StandsFor}
-use Rattle.farm_nodes_restart_records.specs.Offers.{IsConstants, IsExpressions, IsAllocation, IsOrder}
-use Rattle.farm_nodes_restart_records.specs.Fours.{fours_of}
-use Rattle.farm_nodes_restart_records.specs.RestartFault.{RestartFault}
-use Rattle.farm_nodes_restart_records.specs.Texts.{pass_texts}
+use Rattle.farm_nodes_passes.specs.Offers.{IsConstants, IsExpressions, IsAllocation, IsOrder}
+use Rattle.farm_nodes_passes.specs.Fours.{fours_of}
+use Rattle.farm_nodes_restart_seat.specs.declared.fault.RestartFault.{RestartFault}
+use Rattle.farm_nodes_passes.specs.Texts.{pass_texts}
 use Rattle.farm_nodes_restart.specs.Returned.{HasReason, HoldsBack}
 use Rattle.farm_nodes_restart.proofs.Afterwards.{returned_over}
 use Rattle.farm_nodes_restart.proofs.Resting.{at_rest}

@@ -1,8 +1,8 @@
 use Rattle.std.proofs.Common.{◌∙◌, refl, arith}
 use Rattle.std.proofs.lemmas.List.{length-map}
-use Rattle.farm_nodes_restart_records.specs.Fours.{four_of, fours_of}
+use Rattle.farm_nodes_passes.specs.Fours.{four_of, fours_of}
 use Rattle.farm_nodes_restart.specs.Returned.{HaveForgotten}
-use Rattle.farm_nodes_restart_records.proofs.Places.{all_changed, none_changed, one_more}
+use Rattle.farm_nodes_restart_seat.proofs.Places.{all_changed, none_changed, one_more}
 use Rattle.farm_nodes_restart.proofs.returning.forget_all.Goals as goal
 
 pub loop-function-init : goal.loop-function-init

@@ -1,7 +1,7 @@
 use Rattle.std.proofs.Common.{◌≡◌, length}
-use Rattle.farm_nodes_restart_records.specs.Fours.{fours_of}
+use Rattle.farm_nodes_passes.specs.Fours.{fours_of}
 use Rattle.farm_nodes_restart.specs.Returned.{HaveForgotten}
-use Rattle.farm_nodes_restart_records.proofs.Places.{UpTo}
+use Rattle.farm_nodes_restart_seat.proofs.Places.{UpTo}
 use Rattle.farm_nodes_restart.proofs.returning.forget_all.Given as goal
 
 -- the seats of the functions so far have forgotten, and the others are as they were

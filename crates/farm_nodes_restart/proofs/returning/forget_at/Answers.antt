@@ -1,8 +1,8 @@
 use Rattle.std.proofs.Common.{length, refl}
 use Rattle.std.proofs.lemmas.Option.{slice_get_read}
-use Rattle.farm_nodes_restart_records.specs.Fours.{four_of}
+use Rattle.farm_nodes_passes.specs.Fours.{four_of}
 use Rattle.farm_nodes_restart.specs.Returned.{HaveForgotten}
-use Rattle.farm_nodes_restart_records.proofs.Places.{changed_at}
+use Rattle.farm_nodes_restart_seat.proofs.Places.{changed_at}
 use Rattle.farm_nodes_restart.proofs.returning.forget_at.Goals as goal
 
 pub returns-clause-forgot : goal.returns-clause-forgot

@@ -1,6 +1,6 @@
 use Rattle.std.proofs.Common.{◌∙◌}
-use Rattle.farm_nodes_restart_records.specs.Offers.{IsConstants, IsExpressions, IsAllocation, IsOrder}
-use Rattle.farm_nodes_restart_records.specs.Fours.{fours_of}
+use Rattle.farm_nodes_passes.specs.Offers.{IsConstants, IsExpressions, IsAllocation, IsOrder}
+use Rattle.farm_nodes_passes.specs.Fours.{fours_of}
 use Rattle.farm_nodes_restart.proofs.Afterwards.{returned}
 use Rattle.farm_nodes_restart.proofs.returning.return_over.Goals as goal
 

@@ -1,9 +1,9 @@
 use Rattle.std.proofs.Common.{◌*◌, length, refl, sym, subst, inr}
-use Rattle.farm_nodes_restart_records.specs.Fours.{fours_of}
-use Rattle.farm_nodes_restart_records.specs.Offers.{IsConstants, IsExpressions, IsAllocation, IsOrder}
-use Rattle.farm_nodes_restart_records.specs.RestartFault.{RestartFault}
+use Rattle.farm_nodes_passes.specs.Fours.{fours_of}
+use Rattle.farm_nodes_passes.specs.Offers.{IsConstants, IsExpressions, IsAllocation, IsOrder}
+use Rattle.farm_nodes_restart_seat.specs.declared.fault.RestartFault.{RestartFault}
 use Rattle.farm_nodes_restart_records.specs.declared.finding.Found.TheVariants as found
-use Rattle.farm_nodes_restart_records.specs.Texts.{pass_texts}
+use Rattle.farm_nodes_passes.specs.Texts.{pass_texts}
 use Rattle.farm_nodes_restart.specs.Returned.{HoldsBack}
 use Rattle.farm_nodes_restart_records.proofs.Leaving.{asked, pends}
 use Rattle.farm_nodes_restart.proofs.Afterwards.{found_at, stepped_taken}

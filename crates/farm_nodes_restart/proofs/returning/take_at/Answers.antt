@@ -1,6 +1,6 @@
-use Rattle.farm_nodes_restart_records.specs.Fours.{four_of}
-use Rattle.farm_nodes_restart_records.specs.Offers.{IsConstants, IsExpressions, IsAllocation, IsOrder}
-use Rattle.farm_nodes_restart_records.proofs.Places.{err_same_seen}
+use Rattle.farm_nodes_passes.specs.Fours.{four_of}
+use Rattle.farm_nodes_passes.specs.Offers.{IsConstants, IsExpressions, IsAllocation, IsOrder}
+use Rattle.farm_nodes_restart_seat.proofs.Places.{err_same_seen}
 use Rattle.farm_nodes_restart.proofs.Afterwards.{pending_lent, pending_there, took_lent}
 use Rattle.farm_nodes_restart.proofs.returning.take_at.Goals as goal
 

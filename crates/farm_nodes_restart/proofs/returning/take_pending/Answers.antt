@@ -1,5 +1,5 @@
-use Rattle.farm_nodes_restart_records.specs.Fours.{fours_of}
-use Rattle.farm_nodes_restart_records.specs.Offers.{IsConstants, IsExpressions, IsAllocation, IsOrder}
+use Rattle.farm_nodes_passes.specs.Fours.{fours_of}
+use Rattle.farm_nodes_passes.specs.Offers.{IsConstants, IsExpressions, IsAllocation, IsOrder}
 use Rattle.farm_nodes_restart.proofs.Afterwards.{is_taken, may_at}
 use Rattle.farm_nodes_restart.proofs.Refusing.{take_fault}
 use Rattle.farm_nodes_restart.proofs.returning.take_pending.Goals as goal

@@ -1,7 +1,7 @@
 use denote.Param.Send.{sendable}
 use Rattle.std.proofs.Common.{IsTrue}
 use Rattle.farm_nodes_passes.specs.Fours.{four_of}
-use Rattle.farm_nodes_passes.proofs.Sent.{function_send, function_sync}
+use Rattle.rooms_function.proofs.Sent.{function_send, function_sync}
 use Rattle.farm_nodes_restart_records.proofs.Keeping.{four_kept}
 use Rattle.farm_nodes_restart_records.proofs.fours.are_kept_at.Goals as goal
 

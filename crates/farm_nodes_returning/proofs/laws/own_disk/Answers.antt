@@ -1,4 +1,4 @@
-use Rattle.farm_nodes_node.specs.Texts.{pass_texts}
+use Rattle.farm_nodes_passes.specs.Texts.{pass_texts}
 use Rattle.farm_nodes_returning.proofs.Own.{never_others, own_in_order}
 use Rattle.farm_nodes_returning.proofs.laws.own_disk.Goals as goal
 

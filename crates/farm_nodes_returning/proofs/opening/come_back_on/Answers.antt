@@ -2,10 +2,10 @@
 use Rattle.std.proofs.Common.{◌*◌, List, ℕ, length, Some, None, Err, inl, inr, sym, ap, ◌∙◌, subst}
 use Rattle.acceptor_log.specs.Acknowledged.{acknowledged}
 use Rattle.acceptor_log_form.specs.Text.{StandsFor}
-use Rattle.farm_nodes_node.specs.Fours.{fours_of}
-use Rattle.farm_nodes_node.specs.Texts.{pass_texts}
+use Rattle.farm_nodes_passes.specs.Fours.{fours_of}
+use Rattle.farm_nodes_passes.specs.Texts.{pass_texts}
 use Rattle.farm_nodes_restart.specs.Returned.{HasReason}
-use Rattle.farm_nodes_restart.specs.RestartFault.{RestartFault}
+use Rattle.farm_nodes_restart_seat.specs.declared.fault.RestartFault.{RestartFault}
 use Rattle.farm_nodes_pairs.proofs.Shows.{shows_first}
 use Rattle.farm_nodes_returning.proofs.OverPair.{counts_from, is_shown, is_untouched, moments_over, one_fault, same_untouched}
 use Rattle.farm_nodes_returning.proofs.Telling.{one_told}

@@ -4,8 +4,8 @@ use Rattle.durable_pair.specs.Images.{IsSpent}
 use Rattle.farm_nodes_pairs.specs.OnPairs.{IsOldDisk}
 use Rattle.farm_nodes_pairs.specs.declared.old.OldDisk.{OldDisk}
 use Rattle.farm_nodes_restart.proofs.Refusing.{device_of}
-use Rattle.farm_nodes_restart.specs.RestartFault.{RestartFault}
-use Rattle.farm_nodes_restart.specs.Refusals.{restart_fault}
+use Rattle.farm_nodes_restart_seat.specs.declared.fault.RestartFault.{RestartFault}
+use Rattle.farm_nodes_restart_seat.specs.Refusals.{restart_fault}
 use Rattle.farm_nodes_returning.specs.Cause.{HasCauseBefore}
 use Rattle.farm_nodes_returning.proofs.OverPair.{early, one_fault}
 use Rattle.farm_nodes_returning.proofs.opening.no_old_journal.Goals as goal

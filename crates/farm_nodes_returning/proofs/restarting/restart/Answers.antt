@@ -5,11 +5,11 @@ use Rattle.acceptor_log_form.specs.declared.record.Record.{Record}
 use Rattle.acceptor_log_form.specs.Order.{AreInOrder}
 use Rattle.acceptor_log_form.specs.Text.{StandsFor}
 use Rattle.farm_nodes_acting.specs.declared.stop.Pending.{Pending}
-use Rattle.farm_nodes_node.specs.Fours.{four_of, fours_of}
+use Rattle.farm_nodes_passes.specs.Fours.{four_of, fours_of}
 use Rattle.acceptor_log.specs.Acknowledged.{acknowledged}
 use Rattle.farm_nodes_node.specs.Held.{AreSeatsOf}
 use Rattle.durable_pair.specs.Images.{Images}
-use Rattle.farm_nodes_node.specs.Texts.{pass_texts}
+use Rattle.farm_nodes_passes.specs.Texts.{pass_texts}
 use Rattle.farm_nodes_restart.specs.Seats.{HaveComeBack}
 use Rattle.farm_nodes_returning.specs.Cause.{HasCauseOn}
 use Rattle.farm_nodes_returning.specs.Stopped.{left_by, room_in}

@@ -1,5 +1,5 @@
 use denote.Param.Send.{sendable}
-use Rattle.farm_nodes_passes.proofs.Sent.{function_send, function_sync}
+use Rattle.rooms_function.proofs.Sent.{function_send, function_sync}
 use Rattle.farm_nodes_seat_meeting.proofs.FourRooms.{has_all_told}
 use Rattle.farm_nodes_seat_meeting.proofs.functions.has_all.Goals as goal
 

@@ -7,13 +7,13 @@ use Rattle.ltl.specs.contracts.language.LtlLanguage.TheImpl as ltl_language
 use Rattle.linear_language.specs.contracts.language.LinearLanguage.TheImpl as linear_language
 use Rattle.constprop_check.specs.contracts.pass.ConstPropPass.TheImpl as constants
 use Rattle.cse_check.specs.contracts.pass.CsePass.TheImpl as expressions
-use Rattle.farm_nodes_functions.specs.AllocPass.TheImpl as allocation
+use Rattle.alloc_check.specs.contracts.pass.AllocPass.TheImpl as allocation
 use Rattle.linearize_check.specs.contracts.pass.LinearizePass.TheImpl as order
 use Rattle.paxos_core_world.specs.KeptPart.{KeptPart}
-use Rattle.farm_nodes_stored.specs.Which.TheVariants.{Constants, Expressions, Allocation, Order}
+use Rattle.farm_nodes_passes.specs.declared.which.Which.TheVariants.{Constants, Expressions, Allocation, Order}
 use Rattle.farm_nodes_lists.specs.Rows.{rows_of}
-use Rattle.farm_nodes_functions.specs.Kept.{AreSettled, IsOfferedIn, IsSettledIn}
-use Rattle.farm_nodes_functions.specs.Left.{AreLeftIn}
+use Rattle.farm_nodes_function_rooms.specs.Kept.{AreSettled, IsOfferedIn, IsSettledIn}
+use Rattle.farm_nodes_function_rooms.specs.Left.{AreLeftIn}
 use Rattle.farm_nodes_functions.specs.Opened.{AreOfferedIn, AreOpenedIn, IsSettledBefore}
 use Rattle.farm_nodes_seated.specs.Refused.{HasBadRecord, HasRefusedOffer}
 use Rattle.farm_nodes_seated.specs.Seated.{constants_seat, expressions_seat, allocation_seat, order_seat}

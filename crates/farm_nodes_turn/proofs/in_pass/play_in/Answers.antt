@@ -3,7 +3,7 @@ use Rattle.std.proofs.Common.{◌≡◌, true, refl}
 use Rattle.rand_pcg.specs.Pcg.{pcg32}
 use Rattle.farm_nodes_passes.specs.Fours.{four_of}
 use Rattle.farm_nodes_passes.specs.declared.which.Which.TheVariants.{Constants, Expressions, Allocation, Order}
-use Rattle.farm_nodes_passes.proofs.Sent.{function_send, function_sync}
+use Rattle.rooms_function.proofs.Sent.{function_send, function_sync}
 use Rattle.farm_nodes_turn.proofs.Inputs.{on_ok, stands_after}
 use Rattle.farm_nodes_turn.proofs.in_pass.play_in.Goals as goal
 

@@ -1,7 +1,7 @@
 use Rattle.std.proofs.Common.{◌≡◌, ℕ, ◌<◌, length, set, length-set, sym, ◌∙◌, subst}
 use Rattle.rand_pcg.specs.Pcg.{pcg32}
-use Rattle.farm_nodes_playing.specs.Halt.{Halt}
-use Rattle.farm_nodes_playing.specs.Halted.{left_over, HasHaltCause}
+use Rattle.farm_nodes_offers.specs.declared.halt.Halt.{Halt}
+use Rattle.farm_nodes_offers.specs.Halted.{left_over, HasHaltCause}
 use Rattle.farm_nodes_passes.specs.declared.which.Which.{Which}
 use Rattle.farm_nodes_passes.specs.Numbers.{function_of, pass_of}
 use Rattle.farm_nodes_passes.specs.Pending.{HasPending, HavePending}

@@ -1,7 +1,7 @@
 use Rattle.std.proofs.Common.{ℕ, List}
 use Rattle.lang_base.proofs.Forms.{AreBytes, AreBytes-rest}
 use Rattle.lang_base.proofs.Parts.{byte_form}
-use Rattle.machine.specs.Location.{Location}
+use Rattle.locations.specs.declared.location.Location.{Location}
 use Rattle.linear_language.specs.declared.instruction.Instruction.{Instruction}
 use Rattle.linear_language.specs.Forms.{parts_form, parts_fit}
 use Rattle.linear_language.proofs.reading.read_function.Goals as goal

@@ -1,4 +1,4 @@
-use Rattle.linearize_check_layout.specs.Orders.{IsOrder}
+use Rattle.linearize_check_proof.specs.Orders.{IsOrder}
 use Rattle.linearize_check.proofs.Verdicts.{laid_out-by_order}
 use Rattle.linearize_check.proofs.proposals.arrange.Goals as goal
 

@@ -1,5 +1,5 @@
 use Rattle.std.proofs.lemmas.Slice.Eq.{slice_eq-Decides}
-use Rattle.linear_language.proofs.Equal.{tells_decides, location_tells}
+use Rattle.machine.proofs.Equal.{tells_decides, location_tells}
 use Rattle.locations.specs.contracts.location.LocationEq.TheImpl.Laws as location_laws
 use Rattle.linearize_check.proofs.verdict.are_same.Goals as goal
 

@@ -2,8 +2,8 @@ use Rattle.std.proofs.Common.{◌≡◌, length, inl, inr, ◌∙◌, rules}
 use Rattle.std.specs.Option.{option_map}
 use Rattle.std.proofs.lemmas.Bool.{iff_false, cases_lt}
 use Rattle.lang_base.specs.declared.fault.Fault.TheVariants.{Node}
-use Rattle.linearize_check_layout.specs.Layout.{order_code}
-use Rattle.linearize_check_layout.specs.Orders.{ListsNodes}
+use Rattle.linearize_check_proof.specs.Layout.{order_code}
+use Rattle.linearize_check_proof.specs.Orders.{ListsNodes}
 use Rattle.linearize_check.specs.Faults.{HasShape}
 use Rattle.linearize_check.proofs.Verdicts.{tells-lowest, right-from_tests}
 use Rattle.linearize_check.proofs.verdict.why.Goals as goal

@@ -2,7 +2,7 @@ use Rattle.std.proofs.Common.{◌≡◌, ℕ, zero, suc, ◌<◌, ◌+◌, Bool,
 use Rattle.std.specs.Prelude.{◌↔◌}
 use Rattle.std.proofs.lemmas.Bool.{iff_false, ne_eqb}
 use Rattle.std.proofs.lemmas.List.{take_rest, drop-drop, length-drop}
-use Rattle.linearize_check_layout.specs.Layout.{order_code}
+use Rattle.linearize_check_proof.specs.Layout.{order_code}
 use Rattle.linearize_check.specs.Faults.{StandsAt, TellsLowest, first_stretch, place_at}
 use Rattle.linearize_check.proofs.Lowest.{lowest-right, lowest-wrong}
 use Rattle.linearize_check.proofs.Positions.{place-zero, place-more, place-length, first_stretch-drop}

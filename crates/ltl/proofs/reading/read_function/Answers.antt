@@ -1,8 +1,8 @@
 use Rattle.std.proofs.Common.{ℕ, List}
-use Rattle.machine.specs.Location.{Location}
+use Rattle.locations.specs.declared.location.Location.{Location}
 use Rattle.ltl.specs.declared.block.Block.{Block}
-use Rattle.machine.proofs.LangBaseForms.{AreBytes, AreBytes-rest}
-use Rattle.machine.proofs.LangBaseParts.{byte_form}
+use Rattle.lang_base.proofs.Forms.{AreBytes, AreBytes-rest}
+use Rattle.lang_base.proofs.Parts.{byte_form}
 use Rattle.ltl.specs.Forms.{parts_form, parts_fit}
 use Rattle.ltl.proofs.reading.read_function.Goals as goal
 

@@ -1,5 +1,5 @@
 use Rattle.std.proofs.Common.{ℕ, ◌<◌, length}
-use Rattle.paxos_core_invariant.specs.World.{nodes_of}
+use Rattle.paxos_core_world.specs.World.{nodes_of}
 use Rattle.paxos_core_model.specs.Tests.{IsCovered}
 use Rattle.paxos_core_model.proofs.settled.ballots_settled.Given as goal
 

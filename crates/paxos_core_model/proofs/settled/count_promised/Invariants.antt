@@ -1,7 +1,7 @@
 use Rattle.std.proofs.Common.{◌≡◌, ◌≤◌}
-use Rattle.paxos_core_invariant.specs.Quorum.{count_below}
-use Rattle.paxos_core_invariant.specs.Settled.{has_promised}
-use Rattle.paxos_core_invariant.specs.World.{nodes_of}
+use Rattle.paxos_core_world.specs.Quorum.{count_below}
+use Rattle.paxos_core_world.specs.Settled.{has_promised}
+use Rattle.paxos_core_world.specs.World.{nodes_of}
 use Rattle.paxos_core_model.proofs.settled.count_promised.Given as goal
 
 abbrev pub invariant-loop-part : goal.invariant-loop-part

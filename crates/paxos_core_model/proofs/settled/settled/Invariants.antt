@@ -1,5 +1,5 @@
 use Rattle.std.proofs.Common.{ℕ, ◌<◌}
-use Rattle.paxos_core_invariant.specs.World.{nodes_of}
+use Rattle.paxos_core_world.specs.World.{nodes_of}
 use Rattle.paxos_core_model.specs.Tests.{NodeSettled}
 use Rattle.paxos_core_model.proofs.settled.settled.Given as goal
 

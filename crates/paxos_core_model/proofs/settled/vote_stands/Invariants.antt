@@ -1,6 +1,6 @@
 use Rattle.std.proofs.Common.{ℕ, ◌<◌, IfSome}
-use Rattle.paxos_core_invariant.specs.Settled.{PairSettled}
-use Rattle.paxos_core_invariant.specs.World.{nodes_of}
+use Rattle.paxos_core_world.specs.Settled.{PairSettled}
+use Rattle.paxos_core_world.specs.World.{nodes_of}
 use Rattle.paxos_core_model.proofs.settled.vote_stands.Given as goal
 
 abbrev pub invariant-loop-other : goal.invariant-loop-other

@@ -1,5 +1,5 @@
 use Rattle.std.proofs.Common.{◌<◌, refl, sym, ap, ◌∙◌, subst}
-use Rattle.rooms_state.specs.Opening.{Opening}
+use Rattle.rooms_rule.specs.declared.view.Opening.{Opening}
 use Rattle.rooms_met.proofs.Openings.{four_open, some_node}
 use Rattle.rooms_seat.proofs.opening.open_four.Goals as goal
 

@@ -1,7 +1,7 @@
 use Rattle.std.proofs.Common.{ℕ, List}
 use Rattle.rtl_language.specs.declared.instruction.Instruction.{Instruction}
-use Rattle.rtl_parts.proofs.LangBaseForms.{AreBytes, AreBytes-rest}
-use Rattle.rtl_parts.proofs.LangBaseParts.{byte_form}
+use Rattle.lang_base.proofs.Forms.{AreBytes, AreBytes-rest}
+use Rattle.lang_base.proofs.Parts.{byte_form}
 use Rattle.rtl_language.specs.Forms.{parts_form, parts_fit}
 use Rattle.rtl_language.proofs.reading.read_function.Goals as goal
 

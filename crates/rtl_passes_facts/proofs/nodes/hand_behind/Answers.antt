@@ -1,6 +1,6 @@
 use Rattle.std.proofs.Common.{sym}
-use Rattle.rtl_passes_filled.specs.Edges.{edges_of}
-use Rattle.rtl_passes_filled.proofs.Handings.{handed_none}
+use Rattle.rtl_passes_marks.specs.Edges.{edges_of}
+use Rattle.rtl_passes_marks.proofs.Handings.{handed_none}
 use Rattle.rtl_passes_filled.specs.Filled.{behind}
 use Rattle.rtl_passes_facts.proofs.nodes.hand_behind.Goals as goal
 

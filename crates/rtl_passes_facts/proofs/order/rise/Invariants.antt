@@ -1,6 +1,6 @@
 use Rattle.std.proofs.Common.{drop}
 use Rattle.std.specs.Prelude.{◌↔◌}
-use Rattle.rtl_passes_filled.specs.Ranked.{RiseFrom}
+use Rattle.rtl_passes_marks.specs.Ranked.{RiseFrom}
 use Rattle.rtl_passes_facts.proofs.order.rise.Given as goal
 
 abbrev pub invariant-loop-fact : goal.invariant-loop-fact

@@ -1,7 +1,7 @@
 use Rattle.std.proofs.Common.{◌≡◌, ◌≤◌, ◌^◌, length, sym, ap, subst, ◌∙◌, arith}
 use Rattle.std.proofs.lemmas.Result.{err_from_is_err_and}
 use Rattle.lang_base.proofs.Forms.{front_is, no_text}
-use Rattle.rtl_passes_filled.specs.RowForm.{RowsFit, rows_form}
+use Rattle.rtl_passes_marks.specs.RowForm.{RowsFit, rows_form}
 use Rattle.rtl_passes_facts.specs.Certificates.{CertFits}
 use Rattle.rtl_passes_facts.proofs.reading.read_certificate.Goals as goal
 

@@ -1,5 +1,5 @@
 use Rattle.std.proofs.Common.{length}
-use Rattle.rtl_passes_filled.proofs.Verdicts.{told-exact}
+use Rattle.rtl_passes.proofs.Verdicts.{told-exact}
 use Rattle.rtl_passes_filled.specs.Rules.{IsRightAt}
 use Rattle.rtl_passes_filled.specs.Filled.{filled_in}
 use Rattle.rtl_passes_filled.specs.Accepted.{HasShape}

@@ -1,5 +1,5 @@
 use Rattle.std.proofs.Common.{◌≡◌, ◌+◌, [], ◌∷◌, ◌++◌, sym, ap, add-one, ◌∙◌, arith}
-use Rattle.rtlgen_code.specs.Gen.{numbers_from}
+use Rattle.rtlgen_definition.specs.Gen.{numbers_from}
 use Rattle.rtlgen.proofs.Made.{numbers_more}
 use Rattle.rtlgen.proofs.functions.first_registers.Goals as goal
 

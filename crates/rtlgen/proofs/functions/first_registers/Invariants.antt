@@ -1,5 +1,5 @@
 use Rattle.std.proofs.Common.{◌≡◌}
-use Rattle.rtlgen_code.specs.Gen.{numbers_from}
+use Rattle.rtlgen_definition.specs.Gen.{numbers_from}
 use Rattle.rtlgen.proofs.functions.first_registers.Given as goal
 
 abbrev pub invariant-loop-number : goal.invariant-loop-number

@@ -1,6 +1,6 @@
 use Rattle.std.proofs.Common.{◌≡◌, ◌+◌, sym, ap, subst, ◌∙◌}
 use Rattle.rtl_language.specs.Function.{IsFunction}
-use Rattle.rtlgen_code.specs.Gen.{gen_function, numbers_from, statement_needs}
+use Rattle.rtlgen_definition.specs.Gen.{gen_function, numbers_from, statement_needs}
 use Rattle.rtlgen.proofs.Made.{made_nodes, made_entry, made_few}
 use Rattle.rtlgen.proofs.functions.translate_function.Goals as goal
 

@@ -3,7 +3,7 @@ use Rattle.std.proofs.Common.{◌≡◌, ◌≤◌, map, sym, subst}
 use Rattle.std.specs.Prelude.{All}
 use Rattle.std.proofs.lemmas.Result.{IfOk-weaker}
 use Rattle.cminor_syntax.specs.Fits.{IsFunction}
-use Rattle.rtlgen_code.specs.Gen.{gen}
+use Rattle.rtlgen_definition.specs.Gen.{gen}
 use Rattle.rtlgen.proofs.Small.{all_small}
 use Rattle.rtlgen.proofs.programs.translate.Goals as goal
 

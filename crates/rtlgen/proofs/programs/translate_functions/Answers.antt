@@ -1,7 +1,7 @@
 use Rattle.std.proofs.Common.{subst}
 use Rattle.std.specs.Prelude.{All}
 use Rattle.std.proofs.lemmas.List.Elements.{All-more}
-use Rattle.rtlgen_code.specs.Gen.{gen_named}
+use Rattle.rtlgen_definition.specs.Gen.{gen_named}
 use Rattle.rtlgen.specs.Refused.{HasFewNodes}
 use Rattle.rtlgen.proofs.Firsts.{whole, first_is, one_more}
 use Rattle.rtlgen.proofs.programs.translate_functions.Goals as goal

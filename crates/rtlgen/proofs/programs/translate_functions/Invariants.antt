@@ -1,6 +1,6 @@
 use Rattle.std.proofs.Common.{◌≡◌, take, map}
 use Rattle.std.specs.Prelude.{All}
-use Rattle.rtlgen_code.specs.Gen.{gen_named}
+use Rattle.rtlgen_definition.specs.Gen.{gen_named}
 use Rattle.rtlgen.specs.Refused.{HasFewNodes}
 use Rattle.rtlgen.proofs.programs.translate_functions.Given as goal
 

@@ -1,7 +1,7 @@
 use Rattle.std.proofs.Common.{arith}
-use Rattle.farm_nodes_compiling.specs.Fours.{fours_of}
-use Rattle.farm_nodes_opened.specs.Held.{IsSoundNode}
-use Rattle.farm_nodes_opened.specs.Waiting.{IsWaiting}
+use Rattle.farm_nodes_passes.specs.Fours.{fours_of}
+use Rattle.farm_nodes_node.specs.Held.{IsSoundNode}
+use Rattle.farm_nodes_node.specs.Waiting.{IsWaiting}
 use Rattle.farm_nodes.proofs.Fit.{all_both}
 use Rattle.farm_nodes.proofs.farm.Farm.over.Goals as goal
 

@@ -1,13 +1,13 @@
 use Rattle.std.proofs.Common.{◌≡◌, length, Option, None, Ok, Err, refl, sym, ap, ◌∙◌, subst, arith}
 use Rattle.std.proofs.Math.Nat.{ℕ_set}
 use Rattle.std.specs.Arc.{arc_value}
-use Rattle.farm_nodes_turn.specs.Numbers.{pass_of}
+use Rattle.farm_nodes_passes.specs.Numbers.{pass_of}
 use Rattle.farm_nodes_node.specs.declared.halted.Halted.{Halted}
-use Rattle.farm_nodes_turn.specs.Fours.{four_of, fours_of}
+use Rattle.farm_nodes_passes.specs.Fours.{four_of, fours_of}
 use Rattle.farm_nodes_node.specs.Told.{failure_of}
-use Rattle.farm_nodes_turn.specs.Fault.{Fault}
-use Rattle.farm_nodes_turn.specs.Halted.{HasHaltCause}
-use Rattle.farm_nodes_turn.specs.Texts.{pass_texts}
+use Rattle.farm_nodes_offers.specs.declared.halt.Fault.{Fault}
+use Rattle.farm_nodes_offers.specs.Halted.{HasHaltCause}
+use Rattle.farm_nodes_passes.specs.Texts.{pass_texts}
 use Rattle.farm_nodes_turn.specs.Turned.{IsTooLargeFor}
 use Rattle.farm_nodes_node.specs.Held.{fault_in, pending_in, IsSoundNode}
 use Rattle.farm_nodes_node.specs.Stood.{TurnsInto}

@@ -1,7 +1,7 @@
 use Rattle.std.proofs.Common.{ap, option_map}
 use Rattle.paxos_core_world.specs.declared.vote.Vote.{Vote}
-use Rattle.rooms_seat.specs.PaxosCoreLawStep.TheVariants as step
-use Rattle.rooms_seat.proofs.Told.{acted_accept}
+use Rattle.paxos_core_law.specs.declared.step.Step.TheVariants as step
+use Rattle.rooms_state.proofs.Told.{acted_accept}
 use Rattle.rooms.proofs.seat.Seat.accept.Goals as goal
 
 pub returns-clause-answer : goal.returns-clause-answer

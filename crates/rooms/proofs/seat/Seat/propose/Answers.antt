@@ -1,6 +1,6 @@
 use Rattle.std.proofs.Common.{ℕ, ap, option_map}
-use Rattle.rooms_seat.specs.PaxosCoreLawStep.TheVariants as step
-use Rattle.rooms_seat.proofs.Told.{acted_propose}
+use Rattle.paxos_core_law.specs.declared.step.Step.TheVariants as step
+use Rattle.rooms_state.proofs.Told.{acted_propose}
 use Rattle.rooms.proofs.seat.Seat.propose.Goals as goal
 
 pub returns-clause-answer : goal.returns-clause-answer

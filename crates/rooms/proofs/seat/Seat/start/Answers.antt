@@ -1,4 +1,4 @@
-use Rattle.rooms_seat.proofs.Told.{acted_start}
+use Rattle.rooms_state.proofs.Told.{acted_start}
 use Rattle.rooms.proofs.Starts.{spent_told, start_told}
 use Rattle.rooms.proofs.seat.Seat.start.Goals as goal
 

@@ -1,7 +1,7 @@
 use Rattle.std.proofs.Common.{◌≡◌, ℕ, ◌+◌, ◌*◌, ◌<◌, ◌≤◌, set, refl, sym, ap, ◌∙◌, subst, arith}
 use Rattle.rooms_table.specs.Family.{view_in}
 use Rattle.rooms_table.specs.Places.{pair_of}
-use Rattle.rooms_steps.specs.View.{View}
+use Rattle.rooms_rule.specs.declared.view.View.{View}
 use Rattle.rooms_rights.specs.Rights.{Held}
 use Rattle.rooms_rights.specs.Sweep.{FoundChanged}
 use Rattle.rooms_rights.proofs.Sweeping.{first_words, may_then, next_words, none_yet, one_more, rights_left, stopped, told_of, SoFar}

@@ -1,8 +1,8 @@
 use Rattle.std.proofs.Common.{◌≡◌, ℕ, ◌<◌, Option, Some, IfSome, refl, sym, ap, ◌∙◌, subst}
 use Rattle.paxos_core_world.specs.declared.vote.Vote.{Vote}
-use Rattle.rooms_met.specs.Act.TheVariants as act
-use Rattle.rooms_state.specs.Steps.{StoresAcceptor}
-use Rattle.rooms_met.specs.ProposerWord.{ProposerWord}
+use Rattle.paxos_core_law.specs.declared.step.Act.TheVariants as act
+use Rattle.rooms_rule.specs.Steps.{StoresAcceptor}
+use Rattle.rooms_rule.specs.declared.proposer.ProposerWord.{ProposerWord}
 use Rattle.rooms_state.specs.SeatState.{proposer_of, vote_by, SeatState}
 use Rattle.rooms_state.proofs.Acts.{given_ballot, given_value, vote_allowed, vote_seen, vote_sound}
 use Rattle.rooms_met.proofs.Hearing.{same_voted}

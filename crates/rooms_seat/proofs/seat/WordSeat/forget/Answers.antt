@@ -1,5 +1,5 @@
 use Rattle.std.proofs.Common.{◌≡◌, ℕ, ◌<◌, ◌∙◌, subst}
-use Rattle.rooms_state.proofs.Looks.{forgets}
+use Rattle.rooms_steps.proofs.Looks.{forgets}
 use Rattle.rooms_state.proofs.Moves.{forgot_sound, forgotten, found_own}
 use Rattle.rooms_met.proofs.Sweeps.{none_heard}
 use Rattle.rooms_seat.proofs.Steps.{word_below}

@@ -1,6 +1,6 @@
 use Rattle.std.proofs.Common.{ℕ, ◌<◌, sym, ap, subst, refl}
 use Rattle.paxos_core_world.specs.Quorum.{Sizes}
-use Rattle.rooms_state.proofs.Looks.{looks_at_acceptor}
+use Rattle.rooms_steps.proofs.Looks.{looks_at_acceptor}
 use Rattle.rooms_state.specs.SeatState.{SeatState}
 use Rattle.rooms_met.proofs.Sweeps.{acceptor_again, acceptor_noted}
 use Rattle.rooms_seat.proofs.Steps.{word_below}

@@ -1,9 +1,9 @@
 use Rattle.std.proofs.Common.{◌≡◌, ℕ, ◌<◌, ◌≤◌, Option, Some, None, IfSome, sym, ap, ◌∙◌, subst, refl}
 use Rattle.paxos_core_world.specs.KeptPart.{KeptPart}
 use Rattle.paxos_core_world.specs.declared.vote.Vote.{Vote}
-use Rattle.rooms_met.specs.Act.TheVariants as act
-use Rattle.rooms_state.specs.Words.{IsAcceptorWord, IsVoteInWord}
-use Rattle.rooms_state.specs.Steps.{StoresAcceptor}
+use Rattle.paxos_core_law.specs.declared.step.Act.TheVariants as act
+use Rattle.rooms_rule.specs.Words.{IsAcceptorWord, IsVoteInWord}
+use Rattle.rooms_rule.specs.Steps.{StoresAcceptor}
 use Rattle.rooms_state.specs.SeatState.{proposer_of, SeatState}
 use Rattle.rooms_state.proofs.Acts.{kept_value, promise_allowed, promise_sound}
 use Rattle.rooms_met.proofs.Hearing.{same_promised}

@@ -1,6 +1,6 @@
 use Rattle.std.proofs.Common.{◌≡◌, ℕ, ◌<◌, Some, refl, sym, ap, ◌∙◌, subst, arith}
 use Rattle.paxos_core_world.specs.KeptPart.{KeptPart}
-use Rattle.rooms_state.specs.Words.{IsProposerWord}
+use Rattle.rooms_rule.specs.Words.{IsProposerWord}
 use Rattle.rooms_state.proofs.Acts.{proposed_value, propose_allowed, propose_sound}
 use Rattle.rooms_met.proofs.Hearing.{same_proposed}
 use Rattle.rooms_met.proofs.Sweeps.{kept_heard}

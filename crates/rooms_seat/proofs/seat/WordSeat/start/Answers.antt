@@ -1,8 +1,8 @@
 use Rattle.std.proofs.Common.{◌≡◌, ℕ, ◌<◌, false, true, None, ap, ◌∙◌, subst, arith}
 use Rattle.paxos_core_world.specs.KeptPart.{KeptPart}
-use Rattle.rooms_met.specs.NodeState.{NodeState}
-use Rattle.rooms_met.specs.Proposer.{next_ballot}
-use Rattle.rooms_state.specs.Words.{IsProposerWord}
+use Rattle.paxos_core_law.specs.NodeState.{NodeState}
+use Rattle.paxos_core_law.specs.Proposer.{next_ballot}
+use Rattle.rooms_rule.specs.Words.{IsProposerWord}
 use Rattle.rooms_state.proofs.Acts.{start_allowed, start_sound}
 use Rattle.rooms_met.proofs.Sweeps.{none_heard}
 use Rattle.rooms_seat.proofs.Steps.{word_below}

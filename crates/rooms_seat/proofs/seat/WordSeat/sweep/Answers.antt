@@ -3,9 +3,9 @@ use Rattle.rooms_met.specs.Met.{LookedAtFirst}
 use Rattle.rooms_met.specs.Seen.{with_acceptor, IsKept}
 use Rattle.rooms_met.proofs.Looked.{same_quorums}
 use Rattle.rooms_met.proofs.Sweeps.{all_swept, seat_of, swept_until}
-use Rattle.rooms_met.specs.RoomAt.{RoomAt}
-use Rattle.rooms_met.specs.Sweep.{FoundChanged, FoundUnchanged}
-use Rattle.rooms_met.specs.SeenWords.{SeenWords}
+use Rattle.rooms_table.specs.RoomAt.{RoomAt}
+use Rattle.rooms_rights.specs.Sweep.{FoundChanged, FoundUnchanged}
+use Rattle.rooms_rights.specs.declared.seen.SeenWords.{SeenWords}
 use Rattle.rooms_seat.proofs.seat.WordSeat.sweep.Goals as goal
 
 pub invariant_of-self : goal.invariant_of-self

@@ -1,2 +1,0 @@
-pub use Rattle.lang_base.proofs.Beginnings
-pub use Rattle.lang_base.proofs.Parts

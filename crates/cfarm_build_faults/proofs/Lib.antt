@@ -1,1 +1,0 @@
-pub use Rattle.farm_nodes.proofs.Coming

@@ -1,9 +1,0 @@
-pub use Rattle.cfarm_runs.specs.Closings
-pub use Rattle.cfarm_runs.specs.ExecLines
-pub use Rattle.cfarm_runs.specs.ExecStatuses
-pub use Rattle.cfarm_runs.specs.ExecTold
-pub use Rattle.cfarm_runs.specs.TextLines
-pub use Rattle.cfarm_runs.specs.TextStatuses
-pub use Rattle.cfarm_runs.specs.TextTold
-pub use Rattle.cfarm_runs.specs.declared.command_error.CommandError
-pub use Rattle.cfarm_runs.specs.declared.exec_error.ExecError

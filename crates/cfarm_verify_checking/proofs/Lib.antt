@@ -1,4 +1,0 @@
-pub mod Together
-pub mod Whole
-mod Sent
-mod Shared

@@ -1,1 +1,0 @@
--- A newline stands there.

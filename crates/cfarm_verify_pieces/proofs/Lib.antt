@@ -1,3 +1,0 @@
-pub mod Gone
-pub mod Parts
-pub mod Together

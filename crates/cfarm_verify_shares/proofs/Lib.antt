@@ -1,4 +1,0 @@
-pub mod Turns
-pub mod Parts
-pub mod Between
-pub mod Walks

@@ -1,3 +1,0 @@
-pub mod Seams
-pub mod Sent
-pub mod Spelled

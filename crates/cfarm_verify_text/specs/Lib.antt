@@ -1,2 +1,0 @@
-pub mod Sewn
-pub mod Read

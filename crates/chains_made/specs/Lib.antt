@@ -1,0 +1,4 @@
+pub mod Baselines
+pub mod Compiled
+pub mod Counted
+pub mod Refused
