@@ -24,44 +24,44 @@ FUNCTION = r"^\s*(?:pub(?:\(\w+\))? )?(?:const )?fn "
 
 # Each floor: its name, and its crates, lowest first.
 FLOORS = [
-    ("Base: machine words, languages, passes, programs, memory", "ints lang_base lang_parts thread_memory"),
+    ("Base: machine words, languages, passes, programs, memory", "ints lang_base lang_helpers"),
     ("C: tokens and trees, the reader, the checker, the meaning",
-     "c_syntax c_lexer_parts c_lexer c_reader_tokens c_reader_expression_laws "
+     "c_syntax c_lexer_lexemes c_lexer c_reader_tokens c_reader_expression_laws "
      "c_reader_expressions c_reader_productions c_reader_statement_laws c_reader_statements "
      "c_reader_declaration_laws c_reader c_program c_checker_scopes c_checker_rules c_checker_terms "
      "c_checker_bodies c_checker_declarations c_checker c_meaning_machine c_meaning c_texts"),
     ("Languages: whole programs of any, Cminor, RTL, LTL, Linear",
-     "lang locations machine lang_running_cells lang_running cminor_syntax cminor_form cminor_codec cminor_language rtl_parts "
-     "rtl_language rtl_decoded rtl ltl linear_language linear_decoded linear_calls linear_groups linear_fused linear_choice linear_whole linear_going linear_leaving linear"),
+     "lang locations machine lang_running_cells lang_running cminor_syntax cminor_form cminor_codec cminor_language rtl_acts "
+     "rtl_language rtl_decoded rtl ltl linear_language linear_run_decoded linear_run_decoded_calls linear_run_kinds linear_run_fused linear_run_chosen linear_run_code linear_run_loop linear_run_calls linear"),
     ("Texts: what is shown of a program",
-     "text_words text_programs text_acts text_linear text_rtl text_ltl text_cminor"),
+     "text_keys text_common text_linear text_rtl text_ltl text_cminor"),
     ("Lowerings: C to Cminor, Cminor to RTL",
      "cminor_lowering cminor_lowering_ranges cminor_program_ranges cminor rtlgen_definition rtlgen_code rtlgen"),
     ("Passes: the rules of each, that they keep the meaning, the check",
      "rtl_passes rtl_passes_marks rtl_passes_filled rtl_passes_facts constprop_check_rules constprop_check cse_check_rules cse_check "
-     "alloc_check_rules alloc_check_blocks alloc_check_fill alloc_check_filled alloc_check_lists alloc_check_laws alloc_check_verdict alloc_check_live "
+     "alloc_check_rules alloc_check_blocks alloc_check_fill alloc_check_lists alloc_check_proof alloc_check_verdict alloc_check_live "
      "alloc_check "
      "linearize_check_proof linearize_check_layout linearize_check"),
     ("Optimisers: they propose, and nothing is claimed of them",
-     "oracle_graphs oracle_facts oracle_const oracle_alloc_blocks oracle_alloc oracle_cse oracle_webs oracle_alloc_speed oracle_order"),
-    ("Offers, chains of them, and the linked program", "offers offers_choice parallel_validate linker chains chains_made bundle_form bundle_reading bundle_offers"),
+     "oracle_graphs oracle_facts oracle_const oracle_alloc oracle_cse oracle_webs oracle_alloc_speed oracle_order"),
+    ("Offers, chains of them, and the linked program", "offers parallel_validate linker chains chains_made bundle_form bundle_reading bundle_offers"),
     ("Agreement: the protocol, rooms on shared words",
-     "paxos_core_world paxos_core_invariant paxos_core_model paxos_core_law paxos_core_late_offers paxos_core_crash paxos_core "
-     "rooms_rule rooms_table rooms_steps rooms_state rooms_rights rooms_met rooms_crash rooms_seat rooms_cells rooms_hall rooms rooms_function rooms_numbered"),
-    ("Journals", "durable_model_writes durable_model durable_pair durable_pair_turning durable_pair_memory durable_pair_held durable_pair_files acceptor_log_form acceptor_log_blocks acceptor_log acceptor_log_old_form acceptor_log_migrated "
+     "paxos_core_world paxos_core_invariant paxos_core_theorem paxos_core_node_steps paxos_core_late_offers paxos_core_crash paxos_core "
+     "rooms_words rooms_table rooms_steps rooms_seat_state rooms_rights rooms_meeting rooms_crash rooms_seat rooms_cells rooms_hall rooms rooms_function rooms_numbered"),
+    ("Journals", "durable_model_writes durable_model durable_pair durable_pair_memory durable_pair_held durable_pair_files acceptor_log_form acceptor_log acceptor_log_old "
      "acceptor_log_translating acceptor_log_migrating"),
     ("The farm",
-     "farm_nodes_order farm_nodes_acting farm_nodes_leading farm_nodes_offers farm_nodes_playing farm_nodes_passes "
-     "farm_nodes_turn farm_nodes_node farm_nodes_seat_meeting farm_nodes_node_meeting farm_nodes_restart_seat "
-     "farm_nodes_restart_records farm_nodes_restart farm_nodes_pairs farm_nodes_returning farm_nodes_disks farm_nodes_records "
-     "farm_nodes_stored farm_nodes_lists farm_nodes_function_rooms farm_nodes_functions farm_nodes_joining "
-     "farm_nodes_seated farm_nodes_opened farm_nodes_rounds farm_nodes_workers farm_nodes_threads farm_nodes_source "
-     "farm_nodes_compiling farm_nodes_linked farm_nodes_bundled farm_nodes_crash farm_nodes"),
+     "farm_nodes_turn_order farm_nodes_turn_step farm_nodes_turn_offer farm_nodes_turn_room farm_nodes_turn_passes "
+     "farm_nodes_turn_function farm_nodes_turn_node farm_nodes_meet_seats farm_nodes_meet_nodes farm_nodes_restart_seat "
+     "farm_nodes_restart_records farm_nodes_restart_node farm_nodes_open_old farm_nodes_restart_disks farm_nodes_open_journals farm_nodes_open_offers "
+     "farm_nodes_open_stored farm_nodes_open_lists farm_nodes_open_numbers farm_nodes_open_rooms farm_nodes_open_join "
+     "farm_nodes_open_seats farm_nodes_open_nodes farm_nodes_threads_pace farm_nodes_threads_teams farm_nodes_threads farm_nodes_source "
+     "farm_nodes_link farm_nodes_crash farm_nodes"),
     ("The program",
-     "cfarm_files cfarm_options cfarm_explaining cfarm_output cfarm_log_lines cfarm_log cfarm_fsck_lines cfarm_fsck_journals cfarm_fsck text_offers program_texts cfarm_runs cfarm_hints cfarm_meter cfarm_report cfarm_build_result cfarm_build_faults cfarm_build_linking cfarm_build_turns cfarm_build cfarm_build_folder cfarm_offered cfarm_build_files cfarm_settle_nodes cfarm_commands cfarm_emitted cfarm_emit cfarm_verify_lowering cfarm_verify_reading cfarm_verify_comparing cfarm_verify cfarm_judge cfarm_schedules_lines "
-     "cfarm_schedules cfarm_drawing_parts cfarm_drawing cfarm_command_parts cfarm_command_line cfarm_telling cfarm_outcomes cfarm_looking cfarm_folder cfarm_program cfarm"),
+     "cfarm_files cfarm_options cfarm_output cfarm_log_lines cfarm_log cfarm_fsck_journals cfarm_fsck text_offers text_files cfarm_run cfarm_hints cfarm_build_result cfarm_build_faults cfarm_build_linking cfarm_build_turns cfarm_build_folder cfarm_build_offers cfarm_build cfarm_settle_nodes cfarm_settle cfarm_emit cfarm_verify_reading cfarm_verify_comparing cfarm_verify cfarm_judge cfarm_sim_lines "
+     "cfarm_sim cfarm_sim_svg_shapes cfarm_sim_svg cfarm_command_line_others cfarm_command_line cfarm_program_status cfarm_program_runs cfarm_program_looks cfarm_fsck_files cfarm_program cfarm"),
     ("Tests",
-     "program_rows paxos_reference worked_fakes worked_farm worked_agreement worked_texts worked_forms worked_offers worked_chains "
+     "worked_row_files paxos_reference worked_fakes worked_farm worked_agreement worked_offers worked_texts "
      "worked_journals worked_whole worked_hostile worked_rows worked_disk worked_rooms"),
 ]
 ORDER = [crate for _, crates in FLOORS for crate in crates.split()]
@@ -83,29 +83,29 @@ CHANGES = [
      "`c_checker_declarations`; `c_program`, `c_meaning_machine`, `c_meaning`; `cminor_lowering`, `cminor_lowering_ranges`, `cminor`"),
     ("what is refused of a text",
      "[`c_checker`](c_checker/README.md): `c_checker_rules`",
-     "the checker of that part; its sentence: `cfarm_runs` (`specs/Sentences`); its hint: `cfarm_explaining`"),
+     "the checker of that part; its sentence: `cfarm_run` (`specs/Sentences`); its hint: `cfarm_run`"),
     ("a rule of a pass",
      "pass 1 `constprop_check_rules`, 2 `cse_check_rules`, 3 [`alloc_check`](alloc_check/README.md): `alloc_check_rules`, 4 `linearize_check_proof`; "
      "what 1 and 2 share: `rtl_passes_filled`, `rtl_passes_facts`",
      "its check (`constprop_check`, `cse_check`, `alloc_check_verdict`, `linearize_check`), its baseline there or in `alloc_check`, and its "
      "optimiser, whose proposals would be refused (`oracle_const`, `oracle_cse`, `oracle_alloc`, `oracle_order`)"),
-    ("how optimisers choose", "the optimiser; which one a node has: `farm_nodes_compiling`", "nothing: no promise rests on it"),
+    ("how optimisers choose", "the optimiser; which one a node has: `farm_nodes`", "nothing: no promise rests on it"),
     ("the journal's form",
      "[`acceptor_log`](acceptor_log/README.md): `acceptor_log_form`",
-     "`acceptor_log`, `acceptor_log_translating`; a new record: `farm_nodes_order`, `farm_nodes_acting`, `farm_nodes_restart_records`, "
-     "`farm_nodes_records`; the header: `farm_nodes_disks`, `cfarm_hints`"),
+     "`acceptor_log`, `acceptor_log_translating`; a new record: `farm_nodes_turn_order`, `farm_nodes_turn_step`, `farm_nodes_restart_records`, "
+     "`farm_nodes_open_offers`; the header: `farm_nodes_open_journals`, `cfarm_hints`"),
     ("which sizes of quorums meet, and how many a quorum has",
      "[`paxos_core`](paxos_core/README.md): `paxos_core_world` (`quorum.rt`, `specs/Quorum`, `proofs/Quorums`)",
-     "who tests a quorum: `paxos_core`, `paxos_core_model`; what is told of it: `rooms_state` (`proofs/Told`); what a command asks for: `cfarm_command_line`, `cfarm_options`, `cfarm_build_files` (`asking.rt`), `cfarm_folder` (`asking.rt`); where sizes are written: "
-     "`acceptor_log_form`, `cfarm_schedules_lines`; the three nodes of `settle`: `cfarm_settle_nodes`"),
+     "who tests a quorum: `paxos_core`, `paxos_core_theorem`; what is told of it: `rooms_seat_state` (`proofs/Told`); what a command asks for: `cfarm_command_line`, `cfarm_options`, `cfarm_build` (`asking.rt`), `cfarm_fsck_files` (`asking.rt`); where sizes are written: "
+     "`acceptor_log_form`, `cfarm_sim_lines`; the three nodes of `settle`: `cfarm_settle_nodes`"),
     ("an option, a command, help",
      "[`cfarm`](cfarm/README.md): `cfarm_command_line`",
-     "a build's option: `cfarm_options`, `cfarm_build_files`; one of another command: `cfarm_command_parts`, and the crate that does it; all: `cfarm_program`, docs/cfarm.1, "
+     "a build's option: `cfarm_options`, `cfarm_build`; one of another command: `cfarm_command_line_others`, and the crate that does it; all: `cfarm_program`, docs/cfarm.1, "
      "docs/cfarm.bash"),
     ("a line, a status, the order of refusals",
      "[`cfarm`](cfarm/README.md): `cfarm_program`",
-     "`cfarm_runs`, `cfarm_build_faults`, `cfarm_build_folder`, `cfarm_commands`, `cfarm_schedules`; rows of `worked_rows`"),
-    ("turns, and when a ballot starts", "[`farm_nodes`](farm_nodes/README.md): `farm_nodes_leading`, `farm_nodes_rounds`", "rows of `worked_rows`"),
+     "`cfarm_run`, `cfarm_build_faults`, `cfarm_build_folder`, `cfarm_settle`, `cfarm_sim`; rows of `worked_rows`"),
+    ("turns, and when a ballot starts", "[`farm_nodes`](farm_nodes/README.md): `farm_nodes_turn_room`, `farm_nodes_threads_pace`", "rows of `worked_rows`"),
 ]
 
 

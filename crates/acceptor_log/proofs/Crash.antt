@@ -4,7 +4,7 @@ use Rattle.std.specs.Prelude.{All}
 use Rattle.std.proofs.lemmas.Bool.{cases_eq}
 use Rattle.std.proofs.lemmas.List.{take_at, drop_at, drop_all, drop_more, length-append, take-append-drop}
 use Rattle.std.proofs.lemmas.List.Elements.{All-push, All-nil}
-use Rattle.durable_model_writes.specs.Writes.{Torn, overwritten, overwritten_within, torn_before}
+use Rattle.durable_model.specs.Writes.{Torn, overwritten, overwritten_within, torn_before}
 use Rattle.durable_model.specs.Honest.{Only}
 use Rattle.acceptor_log_form.specs.declared.header.Header.{Header}
 use Rattle.acceptor_log_form.specs.declared.record.Record.{Record}

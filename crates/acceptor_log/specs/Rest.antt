@@ -1,6 +1,6 @@
 -- A disk with a journal on it, between two calls.
 use Rattle.std.specs.Prelude.{◌≡◌, ◌⊎◌, ℕ, ◌+◌, List, [], ◌∷◌, ◌++◌, length, All}
-use Rattle.durable_model_writes.specs.Writes.{overwritten, Torn}
+use Rattle.durable_model.specs.Writes.{overwritten, Torn}
 use Rattle.durable_model.specs.Honest.{Only}
 use Rattle.acceptor_log_form.specs.declared.header.Header.{Header}
 use Rattle.acceptor_log_form.specs.declared.record.Record.{Record}

@@ -1,7 +1,7 @@
 //! Writes that are durable where they succeed.
 
 ghost use Rattle.std.specs.Prelude.{◌≡◌, ◌<◌, ◌≤◌, ◌^◌, ◌↔◌, length, OnOk, IsErrOf};
-ghost use Rattle.durable_model_writes.specs.Writes.{overwritten};
+ghost use Rattle.durable_model.specs.Writes.{overwritten};
 ghost use Rattle.durable_model.specs.Honest.{Only, Risen};
 ghost use Rattle.acceptor_log.specs.Calls.{LeavesWithOrWithout, PutsDown, Stays, StaysUnwritten, TearsOnly, WantsMemory};
 ghost use Rattle.acceptor_log.specs.Rest.{with_block};

@@ -9,7 +9,10 @@ mod log;
 mod opening;
 mod reading;
 
-pub use acceptor_log_form::{HEADER_SIZE, Header, LogError, Record, header_bytes, journal_bytes, no_fault, one_list, read_between, record_bytes, text_stands, with_or_without};
+pub use acceptor_log_form::{
+    HEADER_SIZE, Header, LogError, Record, header_bytes, journal_bytes, no_fault, one_list,
+    read_between, record_bytes, text_stands, with_or_without,
+};
 pub use laws::{at_rest, behind_call, file_survives, text_grows};
 pub use log::{Log, MOST_BYTES};
-pub use reading::{Listed, begins_with, is_digest, read, read_records};
+pub use reading::{Listed, begins_with, behind_open, is_digest, read, read_first, read_records};

@@ -2,8 +2,7 @@
 use Rattle.std.specs.Prelude.{◌≡◌, ◌≢◌, ◌⊎◌, ℕ, ◌<◌, ◌≤◌, List, [], ◌∷◌, length, take, None}
 use Rattle.acceptor_log_form.specs.declared.header.Header.{Header}
 use Rattle.acceptor_log_form.specs.declared.errors.LogError.{LogError}
-use Rattle.acceptor_log_form.specs.declared.errors.LogError.TheVariants.{NoMemory, Device, NotAJournal, BadRecord}
-use Rattle.acceptor_log_form.specs.declared.errors.LogError.TheVariants.{OtherSource, Stopped, Full}
+use Rattle.acceptor_log_form.specs.declared.errors.LogError.TheVariants.{NoMemory, Device, NotAJournal, BadRecord, OtherSource, Stopped, Full}
 use Rattle.acceptor_log_form.specs.Text.{header_size, header_text}
 use Rattle.acceptor_log_form.specs.Reading.{listed}
 

@@ -1,6 +1,5 @@
 -- Reading the bytes of a journal: the list of records that they stand for, if there is one.
-use Rattle.std.specs.Prelude.{ℕ, zero, suc, ◌+◌, nat_le, ◌==◌, if◌then◌else◌, List, [], ◌∷◌, length, take, Option}
-use Rattle.std.specs.Prelude.{Some, None}
+use Rattle.std.specs.Prelude.{ℕ, zero, suc, ◌+◌, nat_le, ◌==◌, if◌then◌else◌, List, [], ◌∷◌, length, take, Option, Some, None}
 use Rattle.std.specs.Int.{w16, w32, from_be_bytes}
 use Rattle.std.specs.Option.{option_map}
 use Rattle.acceptor_log_form.specs.declared.header.Header.{Header}

@@ -1,8 +1,7 @@
 -- The numbers that a user is shown beside the names of refusals.
 use Rattle.std.specs.Prelude.{ℕ}
 use Rattle.acceptor_log_form.specs.declared.errors.LogError.{LogError}
-use Rattle.acceptor_log_form.specs.declared.errors.LogError.TheVariants.{NoMemory, Device, NotAJournal, BadRecord}
-use Rattle.acceptor_log_form.specs.declared.errors.LogError.TheVariants.{OtherSource, Stopped, Full}
+use Rattle.acceptor_log_form.specs.declared.errors.LogError.TheVariants.{NoMemory, Device, NotAJournal, BadRecord, OtherSource, Stopped, Full}
 
 abbrev pub number_of : LogError → ℕ
 number_of NoMemory = 1

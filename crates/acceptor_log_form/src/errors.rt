@@ -17,7 +17,7 @@ pub enum LogError {
     #[error("Device")]
     Device,
     /// The bytes are too few for a journal, or begin with others than it does; of one to be migrated, see
-    /// `acceptor_log_old_form`.
+    /// `acceptor_log_old`.
     #[error("NotAJournal")]
     NotAJournal,
     /// Behind an open gate, a body that is cut or is no record, or no gate behind it.

@@ -2,8 +2,7 @@
 
 ghost use Rattle.std.specs.Prelude.{◌≡◌, ◌∷◌, ◌++◌, length, All, IfOk, OnOk};
 ghost use Rattle.std.specs.Int.{w16, to_be_bytes};
-ghost use Rattle.acceptor_log_form.specs.Text.{ballot_text, block_text, body_text, header_size, header_text};
-ghost use Rattle.acceptor_log_form.specs.Text.{journal_text, summary_text, vote_text, HasLength};
+ghost use Rattle.acceptor_log_form.specs.Text.{ballot_text, block_text, body_text, header_size, header_text, journal_text, summary_text, vote_text, HasLength};
 
 use crate::header::Header;
 use crate::record::Record;

@@ -7,7 +7,7 @@ use Rattle.durable_model_writes.specs.Writes.{overwritten}
 use Rattle.durable_model.specs.Honest.{Only}
 use Rattle.durable_model.specs.Moments.{LeavesOnly, started}
 use Rattle.durable_pair.specs.Images.{Both}
-use Rattle.durable_pair_turning.proofs.Turned.{weaker, begins_with}
+use Rattle.acceptor_log_migrating.proofs.Turned.{weaker, begins_with}
 use Rattle.acceptor_log_form.specs.declared.errors.LogError.{LogError}
 use Rattle.acceptor_log_form.specs.declared.errors.LogError.TheVariants as log
 use Rattle.acceptor_log.specs.Faults.{log_fault}
@@ -18,12 +18,12 @@ use Rattle.acceptor_log_form.specs.declared.header.Header.{Header}
 use Rattle.acceptor_log_form.specs.declared.record.Record.{Record}
 use Rattle.acceptor_log_form.specs.Text.{header_text, header_size, blocks, journal_text, Fits, StandsFor}
 use Rattle.acceptor_log_form.proofs.Texts.{stands-pieces}
-use Rattle.acceptor_log_old_form.specs.OldText.{old_header_size, OldStandsFor}
-use Rattle.acceptor_log_old_form.proofs.OldHeaders.{either_form, text-first, text-second, size-first, size-second}
-use Rattle.acceptor_log_old_form.proofs.OldTexts.{old_listed-stands}
-use Rattle.durable_pair_turning.specs.Turning.{BeginsWith, Turns}
+use Rattle.acceptor_log_old.specs.OldText.{old_header_size, OldStandsFor}
+use Rattle.acceptor_log_old.proofs.OldHeaders.{either_form, text-first, text-second, size-first, size-second}
+use Rattle.acceptor_log_old.proofs.OldTexts.{old_listed-stands}
+use Rattle.acceptor_log_migrating.specs.Turning.{BeginsWith, Turns}
 use Rattle.acceptor_log_translating.specs.declared.translating.Text.{Text}
-use Rattle.acceptor_log_migrated.specs.Migrated.{migrated}
+use Rattle.acceptor_log_old.specs.Migrated.{migrated}
 use Rattle.acceptor_log_translating.specs.Translating.{IsMigratedText}
 use Rattle.acceptor_log_migrating.specs.Stands.{IsMigrating}
 

@@ -12,7 +12,7 @@ use Rattle.acceptor_log_form.specs.declared.errors.LogError.TheVariants.{NoMemor
 use Rattle.acceptor_log.specs.declared.log.Log.{Log}
 use Rattle.acceptor_log.specs.Acknowledged.{acknowledged}
 use Rattle.acceptor_log.specs.Rest.{Rests}
-use Rattle.acceptor_log_migrated.specs.Migrated.{migrated}
+use Rattle.acceptor_log_old.specs.Migrated.{migrated}
 use Rattle.acceptor_log_migrating.specs.declared.migrating.Laid.{Laid}
 use Rattle.acceptor_log_migrating.specs.Stands.{CanMigrate, HasOld, IsMigrating, IsNotMigrated}
 

@@ -4,8 +4,8 @@ use Rattle.durable_pair.specs.Images.{Images, IsSpent}
 use Rattle.acceptor_log_form.specs.declared.header.Header.{Header}
 use Rattle.acceptor_log_form.specs.declared.record.Record.{Record}
 use Rattle.acceptor_log_form.specs.Text.{StandsFor}
-use Rattle.acceptor_log_old_form.specs.OldText.{OldStandsFor}
-use Rattle.acceptor_log_migrated.specs.Migrated.{migrated}
+use Rattle.acceptor_log_old.specs.OldText.{OldStandsFor}
+use Rattle.acceptor_log_old.specs.Migrated.{migrated}
 pub use Rattle.acceptor_log_translating.specs.Old.{CanMigrate, IsNotMigrated}
 
 -- While the old bytes count, the records are those of the old journal, and else those of the new one.

@@ -4,5 +4,7 @@
 #![tactic(auto)]
 
 mod migrating;
+mod turning;
 
 pub use migrating::migrate;
+pub use turning::turn;

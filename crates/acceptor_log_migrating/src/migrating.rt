@@ -6,12 +6,12 @@ ghost use Rattle.acceptor_log.specs.Acknowledged.{IsReady};
 ghost use Rattle.acceptor_log.specs.Faults.{log_fault};
 ghost use Rattle.acceptor_log_migrating.specs.Moving.{returned, IsRefusedFor, IsTurned, HasMigrated, IsLaid, Moves, Stays, IsUnwritten};
 
-use acceptor_log_form::{Header, LogError};
+use crate::turning::turn;
 use acceptor_log::Log;
+use acceptor_log_form::{Header, LogError};
 use acceptor_log_translating::translate;
 use durable_model::DiskError;
 use durable_pair::Pair;
-use durable_pair_turning::turn;
 use std::alloc::Global;
 
 /// Migrates the journal on the old disk to the new one, over what is there, and opens that. The old disk was synced, so

@@ -14,17 +14,17 @@ use Rattle.acceptor_log_form.specs.Leaves.{kept_by, proposed_by, kept_in, propos
 use Rattle.acceptor_log_form.specs.Order.{GoesOn, MayFollow, AreInOrder}
 use Rattle.acceptor_log_form.proofs.LeavesLemmas.{left_from-own, left_from-other}
 use Rattle.acceptor_log.proofs.ReadBlocks.{one_more_read}
-use Rattle.acceptor_log_old_form.specs.OldText.{is_plain, are_plain}
+use Rattle.acceptor_log_old.specs.OldText.{is_plain, are_plain}
 use Rattle.acceptor_log_translating.specs.Noted.{IsNoted}
-use Rattle.acceptor_log_old_form.proofs.Plain.{plain-more}
+use Rattle.acceptor_log_old.proofs.Plain.{plain-more}
 use Rattle.acceptor_log_translating.specs.declared.stepping.Room.{Room}
 use Rattle.acceptor_log_translating.specs.declared.finding.Found.{Found}
-use Rattle.acceptor_log_migrated.specs.Migrated.{AreOfRooms, offer_in, offered}
+use Rattle.acceptor_log_old.specs.Migrated.{AreOfRooms, offer_in, offered}
 use Rattle.acceptor_log_translating.specs.Found.{nothing_found, place_by, ArePlaced, IsFound, AreFound, AreBroken, IsBroken, AreWidened, IsFoundIn}
-use Rattle.acceptor_log_migrated.proofs.Offers.{or_else, or_none, offer_in-append}
-use Rattle.acceptor_log_migrated.proofs.Kept.{some-offered}
-use Rattle.acceptor_log_migrated.proofs.InOrder.{in_order-push}
-use Rattle.acceptor_log_migrated.proofs.Rooms.{no_offer, none_left}
+use Rattle.acceptor_log_old.proofs.Offers.{or_else, or_none, offer_in-append}
+use Rattle.acceptor_log_old.proofs.Kept.{some-offered}
+use Rattle.acceptor_log_old.proofs.InOrder.{in_order-push}
+use Rattle.acceptor_log_old.proofs.Rooms.{no_offer, none_left}
 
 -- a block that was read stands between what is left before it and behind it
 pub block_placed : (bytes rest behind after : List ℕ) (rs : List Record) (r : Record) (place : ℕ × ℕ) → bytes ≡ blocks rs ++ rest → rest ≡ 1 ∷ behind → behind ≡ block_text r ++ after

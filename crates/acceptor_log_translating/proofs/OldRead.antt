@@ -8,9 +8,9 @@ use Rattle.acceptor_log_form.specs.declared.errors.LogError.TheVariants.{NoMemor
 use Rattle.acceptor_log_form.specs.Text.{StandsBehind}
 use Rattle.acceptor_log_form.specs.Order.{AreInOrder}
 use Rattle.acceptor_log_form.specs.Reading.{records_behind}
-use Rattle.acceptor_log_old_form.specs.OldText.{old_header_size, old_header_text, are_plain, OldStandsFor}
-use Rattle.acceptor_log_old_form.specs.OldFault.{IsInOldForm, HasOldFault}
-use Rattle.acceptor_log_old_form.proofs.OldTexts.{old_listed-none, old_listed-cut}
+use Rattle.acceptor_log_old.specs.OldText.{old_header_size, old_header_text, are_plain, OldStandsFor}
+use Rattle.acceptor_log_old.specs.OldFault.{IsInOldForm, HasOldFault}
+use Rattle.acceptor_log_old.proofs.OldTexts.{old_listed-none, old_listed-cut}
 use Rattle.acceptor_log_translating.specs.declared.translating.Text.{Text}
 use Rattle.acceptor_log_translating.specs.declared.stepping.Room.{Room}
 use Rattle.acceptor_log_translating.specs.Found.{AreBroken, AreFound}

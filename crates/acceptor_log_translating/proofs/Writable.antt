@@ -5,7 +5,7 @@ use Rattle.acceptor_log_form.specs.declared.record.Record.{Record}
 use Rattle.acceptor_log_form.specs.Leaves.{kept_in}
 use Rattle.acceptor_log_translating.specs.declared.stepping.Room.{Room}
 use Rattle.acceptor_log_translating.specs.Found.{AreFound, CanBeWritten}
-use Rattle.acceptor_log_migrated.proofs.Well.{well-in_order, well-byte}
+use Rattle.acceptor_log_old.proofs.Well.{well-in_order, well-byte}
 
 pub all_writable : (n i : ℕ) (bytes : List ℕ) (rs : List Record) (rooms : List Room) → n < 256 → AreFound n i bytes rs rooms → (m : ℕ) (x : Room) → slice_get rooms m ≡ Some x → CanBeWritten bytes x
 all_writable n i bytes rs rooms few are m x here =

@@ -6,10 +6,10 @@ use Rattle.acceptor_log_form.specs.declared.record.Record.TheVariants.{Offered, 
 use Rattle.acceptor_log_form.specs.Text.{blocks, Fits}
 use Rattle.acceptor_log_form.specs.Leaves.{kept_in, proposed_in}
 use Rattle.acceptor_log_form.specs.Order.{GoesOn, AreInOrder}
-use Rattle.acceptor_log_old_form.specs.OldText.{is_plain, are_plain}
+use Rattle.acceptor_log_old.specs.OldText.{is_plain, are_plain}
 use Rattle.acceptor_log_translating.specs.declared.stepping.Room.{Room}
 use Rattle.acceptor_log_translating.specs.declared.finding.Found.{Found}
-use Rattle.acceptor_log_migrated.specs.Migrated.{AreOfRooms, offer_in, offered}
+use Rattle.acceptor_log_old.specs.Migrated.{AreOfRooms, offer_in, offered}
 
 -- the bytes from one place up to another
 abbrev pub part_at : List ℕ → ℕ × ℕ → List ℕ

@@ -6,9 +6,9 @@ use Rattle.acceptor_log_form.specs.declared.errors.LogError.{LogError}
 use Rattle.acceptor_log_form.specs.declared.errors.LogError.TheVariants.{BadRecord, Full}
 use Rattle.acceptor_log_form.specs.Text.{journal_text}
 use Rattle.acceptor_log_form.specs.Order.{AreInOrder}
-use Rattle.acceptor_log_old_form.specs.OldText.{OldStandsFor}
-use Rattle.acceptor_log_old_form.specs.OldFault.{HasOldFault}
-use Rattle.acceptor_log_migrated.specs.Migrated.{migrated}
+use Rattle.acceptor_log_old.specs.OldText.{OldStandsFor}
+use Rattle.acceptor_log_old.specs.OldFault.{HasOldFault}
+use Rattle.acceptor_log_old.specs.Migrated.{migrated}
 use Rattle.acceptor_log_translating.specs.declared.translating.Text.{Text}
 use Rattle.acceptor_log_translating.specs.Translating.{IsMigratedText}
 

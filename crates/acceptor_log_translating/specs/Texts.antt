@@ -7,7 +7,7 @@ use Rattle.acceptor_log_form.specs.declared.errors.LogError.TheVariants.{Full}
 use Rattle.acceptor_log_form.specs.Text.{Fits, blocks, journal_text}
 use Rattle.acceptor_log_translating.specs.declared.stepping.Room.{Room}
 use Rattle.acceptor_log_translating.specs.declared.translating.Text.{Text}
-use Rattle.acceptor_log_migrated.specs.Migrated.{of_room, offered, migrated_below, migrated}
+use Rattle.acceptor_log_old.specs.Migrated.{of_room, offered, migrated_below, migrated}
 use Rattle.acceptor_log_translating.specs.Found.{IsFound, EachIsFound, AreFound}
 use Rattle.acceptor_log_translating.specs.Translating.{IsAdded, IsMigratedText}
 

@@ -5,7 +5,7 @@ ghost use Rattle.acceptor_log_translating.specs.Found.{AreWidened};
 ghost use Rattle.acceptor_log_translating.specs.Noted.{IsFoundOf, AreNoRecords, IsFoundBehind, IsNoRecord, IsNoted, IsPutDown};
 
 use crate::stepping::{Room, new_room, room_after};
-use acceptor_log_blocks::{behind_open, read_first};
+use acceptor_log::{behind_open, read_first};
 use acceptor_log_form::{Header, LogError, Record};
 use std::alloc::{AllocError, Global};
 

@@ -4,7 +4,7 @@ ghost use Rattle.std.specs.Prelude.{◌≡◌, ◌≢◌, ◌<◌, ◌≤◌, �
 ghost use Rattle.paxos_core_world.specs.Ballot.{Owns};
 ghost use Rattle.acceptor_log_form.specs.Leaves.{kept_by, proposed_by};
 ghost use Rattle.acceptor_log_form.specs.Order.{GoesOn};
-ghost use Rattle.acceptor_log_old_form.specs.OldText.{is_plain};
+ghost use Rattle.acceptor_log_old.specs.OldText.{is_plain};
 ghost use Rattle.acceptor_log_translating.specs.Found.{place_by, nothing_found, IsBroken};
 
 use acceptor_log_form::{Header, Record};

@@ -4,7 +4,7 @@ ghost use Rattle.std.specs.Prelude.{◌≡◌, ◌≢◌, ◌<◌, ◌≤◌, �
 ghost use Rattle.std.specs.Prelude.{[], ◌∷◌, ◌++◌, IfOk, OnOk, IfErr, IfSome};
 ghost use Rattle.acceptor_log_form.specs.declared.record.Record.{Record};
 ghost use Rattle.acceptor_log_form.specs.Text.{HasLength, block_text};
-ghost use Rattle.acceptor_log_migrated.specs.Migrated.{told, summary_of};
+ghost use Rattle.acceptor_log_old.specs.Migrated.{told, summary_of};
 ghost use Rattle.acceptor_log_translating.specs.Translating.{IsAdded};
 ghost use Rattle.acceptor_log_translating.specs.Found.{part_at, IsPlace, AreFound, CanBeWritten};
 ghost use Rattle.acceptor_log_translating.specs.Texts.{IsTextOf, IsTooLong, IsTextBelow, AreRoomsAdded, IsRoomAdded, IsOfferAdded};
@@ -14,7 +14,7 @@ use crate::finding::{Found, find};
 use crate::stepping::Room;
 use acceptor_log::MOST_BYTES;
 use acceptor_log_form::{Header, LogError, Record, header_bytes, write_record};
-use acceptor_log_old_form::behind_header;
+use acceptor_log_old::behind_header;
 use lang_base::NoMemory;
 use paxos_core_world::kept::Kept;
 use std::alloc::Global;

@@ -10,11 +10,11 @@ use Rattle.locations.specs.declared.location.Location.{Location}
 use Rattle.locations.specs.declared.location.Location.TheVariants.{InRegister, InSlot}
 use Rattle.locations.specs.Fits as locations
 use Rattle.machine.specs.Fits as machine
-use Rattle.rtl_parts.specs.declared.arguments.Arguments.{Arguments}
-use Rattle.rtl_parts.specs.declared.arguments.Arguments.TheVariants.{One, Two}
-use Rattle.rtl_parts.specs.declared.act.Act.{Act}
-use Rattle.rtl_parts.specs.declared.act.Act.TheVariants.{Nop, Constant, Move, Operate, Load, Store, Put}
-use Rattle.rtl_parts.specs.Fits.{RegisterFits, TargetFits, ArgumentsFit, ActFits}
+use Rattle.rtl_acts.specs.declared.arguments.Arguments.{Arguments}
+use Rattle.rtl_acts.specs.declared.arguments.Arguments.TheVariants.{One, Two}
+use Rattle.rtl_acts.specs.declared.act.Act.{Act}
+use Rattle.rtl_acts.specs.declared.act.Act.TheVariants.{Nop, Constant, Move, Operate, Load, Store, Put}
+use Rattle.rtl_acts.specs.Fits.{RegisterFits, TargetFits, ArgumentsFit, ActFits}
 use Rattle.rtl_language.specs.declared.instruction.Instruction.{Instruction}
 use Rattle.rtl_language.specs.declared.instruction.Instruction.TheVariants.{Do, Call, Branch, Return}
 use Rattle.rtl_language.specs.Function.{FunctionData, IsFunction, InstructionFits}

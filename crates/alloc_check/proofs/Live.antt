@@ -4,8 +4,8 @@ use Rattle.std.specs.Prelude.{map}
 use Rattle.rtl_language.specs.Function.{FunctionData, IsFunction}
 use Rattle.rtl_passes_marks.specs.Marks.{AreFeeders}
 use Rattle.alloc_check_rules.specs.Rules.{baseline_limit, equations_at, IsInOrder}
-use Rattle.alloc_check_filled.specs.Allocated.{IsAllocated}
-use Rattle.alloc_check_filled.proofs.Kept.{kept}
+use Rattle.alloc_check_verdict.specs.Allocated.{IsAllocated}
+use Rattle.alloc_check_verdict.proofs.Kept.{kept}
 use Rattle.alloc_check_live.specs.Lists.{registers_at, AreLive}
 use Rattle.alloc_check.specs.Slots.{own, function_in}
 use Rattle.alloc_check.specs.Rows.{rows_from}

@@ -12,7 +12,7 @@ use Rattle.rtl_passes_marks.specs.Ranked.{RiseFrom}
 use Rattle.rtl_passes_marks.specs.Rows.{place_of, entries_at, IsRow, AreRows}
 use Rattle.alloc_check_rules.specs.declared.equation.Equation.{Equation}
 use Rattle.alloc_check_rules.specs.Rules.{IsInOrder}
-use Rattle.alloc_check_filled.specs.Allocated.{is_marked}
+use Rattle.alloc_check_verdict.specs.Allocated.{is_marked}
 use Rattle.alloc_check_verdict.proofs.Known.{is_marked_from}
 use Rattle.alloc_check_live.specs.Lists.{registers_at}
 use Rattle.alloc_check.specs.Slots.{own}

@@ -7,7 +7,7 @@ use Rattle.rtl_passes_marks.specs.declared.row.NodeRow.{NodeRow}
 use Rattle.rtl_passes_marks.specs.Rows.{entries_at, AreRows}
 use Rattle.alloc_check_rules.specs.declared.equation.Equation.{Equation}
 use Rattle.alloc_check_rules.specs.Rules.{Rise, IsInOrder}
-use Rattle.alloc_check_filled.specs.Allocated.{is_marked}
+use Rattle.alloc_check_verdict.specs.Allocated.{is_marked}
 use Rattle.alloc_check_live.specs.Liveness.{IsLive}
 use Rattle.alloc_check.specs.Slots.{own, function_in}
 

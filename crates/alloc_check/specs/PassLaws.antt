@@ -10,17 +10,16 @@ use Rattle.rtl_language.specs.Function as rtl
 use Rattle.rtl_language.specs.Meaning as rtl_meaning
 use Rattle.ltl.specs.Function as ltl
 use Rattle.ltl.specs.Meaning.{run}
-use Rattle.rtl_passes.specs.ListForm.{ListFits}
+use Rattle.alloc_check_verdict.specs.ListForm.{ListFits}
 use Rattle.rtl_passes_marks.specs.declared.row.NodeRow.{NodeRow}
 use Rattle.rtl_passes_marks.specs.RowForm.{RowFits}
 use Rattle.rtl_passes_marks.specs.Rows.{place_of, IsRow}
 use Rattle.rtl_passes_marks.proofs.Short.{few_between}
 use Rattle.alloc_check_rules.specs.declared.equation.Equation.{Equation}
 use Rattle.alloc_check_rules.specs.Rules.{EquationFits, IsInOrder}
-use Rattle.alloc_check_filled.specs.Allocated.{IsAllocated}
-use Rattle.alloc_check_verdict.proofs.Passed.{sound}
-use Rattle.alloc_check_laws.specs.Text.{CertFits, cert_text}
-use Rattle.alloc_check_verdict.proofs.Passed.{rows_of_equations}
+use Rattle.alloc_check_verdict.specs.Allocated.{IsAllocated}
+use Rattle.alloc_check_verdict.proofs.Passed.{sound, rows_of_equations}
+use Rattle.alloc_check_verdict.specs.Text.{CertFits, cert_text}
 
 -- what is accepted keeps the meaning
 pub sound_law : (p : Program rtl.FunctionData) (q : Program ltl.FunctionData) → AllFit rtl.IsFunction p → AllFit ltl.IsFunction q → Accepted IsAllocated p q → Keeps (rtl_meaning.run p) (run q)

@@ -5,10 +5,10 @@ use Rattle.std.specs.Option.{option_map}
 use Rattle.locations.specs.declared.location.Location.{Location}
 use Rattle.locations.specs.declared.location.Location.TheVariants.{InRegister, InSlot}
 use Rattle.locations.specs.declared.location.Move as location_move
-use Rattle.rtl_parts.specs.declared.arguments.Arguments.{Arguments}
-use Rattle.rtl_parts.specs.declared.arguments.Arguments.TheVariants.{One, Two}
-use Rattle.rtl_parts.specs.declared.act.Act.{Act}
-use Rattle.rtl_parts.specs.declared.act.Act.TheVariants.{Nop, Constant, Move, Operate, Load, Store, Put}
+use Rattle.rtl_acts.specs.declared.arguments.Arguments.{Arguments}
+use Rattle.rtl_acts.specs.declared.arguments.Arguments.TheVariants.{One, Two}
+use Rattle.rtl_acts.specs.declared.act.Act.{Act}
+use Rattle.rtl_acts.specs.declared.act.Act.TheVariants.{Nop, Constant, Move, Operate, Load, Store, Put}
 use Rattle.rtl_language.specs.declared.instruction.Instruction.{Instruction}
 use Rattle.rtl_language.specs.declared.instruction.Instruction.TheVariants.{Do, Call, Branch, Return}
 use Rattle.rtl_language.specs.Function as rtl

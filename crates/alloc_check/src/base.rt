@@ -1,6 +1,6 @@
 ghost use Rattle.std.specs.Prelude.{◌≡◌, ◌≢◌, ◌≤◌, IfOk, IfErr};
 ghost use Rattle.alloc_check_rules.specs.Rules.{baseline_limit, IsTooLarge};
-ghost use Rattle.alloc_check_filled.specs.Allocated.{IsAllocated};
+ghost use Rattle.alloc_check_verdict.specs.Allocated.{IsAllocated};
 ghost use Rattle.alloc_check.specs.Baseline.{AreLiveRows};
 ghost use Rattle.alloc_check.specs.Slots.{function_in};
 
@@ -8,16 +8,13 @@ use crate::function::function_in;
 use crate::lists::own_rows;
 use alloc_check_live::live_registers;
 use alloc_check_verdict::EquationLists;
-use rtl_passes_marks::feeders_of;
 use lang_base::{NoMemory, PassError};
-use lang_parts::beside;
+use ltl::beside;
+use rtl_passes_marks::feeders_of;
 use std::alloc::Global;
 
 /// The equations of the registers that are live, at marked nodes.
-fn live_equations(
-    alloc: Global,
-    input: &rtl_language::Function,
-) -> Result<EquationLists, NoMemory>
+fn live_equations(alloc: Global, input: &rtl_language::Function) -> Result<EquationLists, NoMemory>
     requires { input.now.registers ≤ baseline_limit }
     ensures live { IfOk result (λ rows. AreLiveRows input.now rows) }
     ensures accepted { IfOk result (λ rows. IsAllocated input.now (function_in input.now) rows) }

@@ -6,7 +6,7 @@ ghost use Rattle.alloc_check.specs.Slots.{fetch, keep, arguments_before, argumen
 
 use lang_base::{NoMemory, Row};
 use locations::{Location, Move, Register as MachineRegister};
-use rtl_parts::{Act, Arguments, Register};
+use rtl_acts::{Act, Arguments, Register};
 use std::alloc::Global;
 
 fn fetch(machine_register: MachineRegister, register: Register) -> Move

@@ -5,9 +5,9 @@ ghost use Rattle.alloc_check_rules.specs.Rules.{baseline_limit};
 ghost use Rattle.alloc_check.specs.Slots.{block_in, function_in};
 
 use crate::nodes::{block_in, slots_of};
-use rtl_language::Instruction;
 use lang_base::{NoMemory, Row};
 use ltl::Block;
+use rtl_language::Instruction;
 use std::alloc::Global;
 
 fn blocks_in(alloc: Global, nodes: &[Instruction]) -> Result<Vec<Block>, NoMemory>

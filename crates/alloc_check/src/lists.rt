@@ -4,12 +4,12 @@ ghost use Rattle.std.specs.Prelude.{◌≡◌, ◌<◌, ◌^◌, ◌++◌, map, 
 ghost use Rattle.alloc_check.specs.Rows.{row_at, rows_from};
 ghost use Rattle.alloc_check.specs.Slots.{own};
 
-use alloc_check_rules::Equation;
 use alloc_check_live::Numbers;
-use rtl_passes_marks::NodeRow;
+use alloc_check_rules::Equation;
 use lang_base::{NoMemory, Row};
 use locations::Location;
-use rtl_parts::Register;
+use rtl_acts::Register;
+use rtl_passes_marks::NodeRow;
 use std::alloc::Global;
 
 fn own(register: Register) -> Equation

@@ -6,11 +6,11 @@ ghost use Rattle.alloc_check.specs.Slots.{slot, before_in, body_in, block_in};
 use crate::blocks::{
     act_after, act_before, act_in, arguments_before, arguments_in, fetch_one, none,
 };
-use rtl_language::Instruction;
 use lang_base::{NoMemory, Row};
 use locations::{Location, Move};
 use ltl::{Block, Body};
-use rtl_parts::Register;
+use rtl_acts::Register;
+use rtl_language::Instruction;
 use std::alloc::Global;
 
 /// The slots of these registers.

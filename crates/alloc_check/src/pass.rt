@@ -1,9 +1,9 @@
 use crate::base::baseline;
-use rtl_language::Rtl;
 use alloc_check_verdict::{EquationLists, Equations, Sizes, check};
-use rtl_passes_marks::{read_rows, write_rows};
 use lang_base::{FormError, NoMemory, Pass, PassError, Row};
 use ltl::Ltl;
+use rtl_language::Rtl;
+use rtl_passes_marks::{read_rows, write_rows};
 use std::alloc::Global;
 
 /// Pass 3: pseudo-registers lie in registers and slots.
@@ -12,8 +12,8 @@ pub struct Alloc;
 impl Pass for Alloc {
     ghost use Rattle.std.specs.Prelude.{◌≡◌, ◌≢◌, ◌≤◌, ℕ, List, ◌++◌, length, take, IsTrue, ◌↔◌, OnOk, OnErr, IfOk, IfErr};
     ghost use Rattle.alloc_check_rules.specs.Rules.{IsTooLarge};
-    ghost use Rattle.alloc_check_filled.specs.Allocated.{IsAllocated};
-    ghost use Rattle.alloc_check_laws.specs.Text.{CertFits, cert_text};
+    ghost use Rattle.alloc_check_verdict.specs.Allocated.{IsAllocated};
+    ghost use Rattle.alloc_check_verdict.specs.Text.{CertFits, cert_text};
     ghost use Rattle.alloc_check.specs.Baseline.{IsBaseline};
     ghost use Rattle.alloc_check.specs.PassLaws.{allocated_fits, one_cert, sound_law};
 

@@ -4,9 +4,7 @@ ghost use Rattle.std.specs.Prelude.{◌≡◌};
 ghost use Rattle.alloc_check_rules.specs.Equations.{through_result, through, is_lost, over_call, through_body};
 
 use crate::origins::is_at;
-use ltl::Body;
-use alloc_check_rules::{Change, Demand, Equation};
-use rtl_parts::Register;
+use alloc_check_rules::{Body, Change, Demand, Equation, Register};
 use locations::Location;
 
 fn through_result(register: Register, location: Location, equation: Equation) -> Demand

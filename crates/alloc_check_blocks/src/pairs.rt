@@ -1,15 +1,11 @@
 //! What an instruction and the body that stands for it define, if they do the same.
 
 ghost use Rattle.std.specs.Prelude.{◌≡◌, Some, None};
-ghost use Rattle.rtl_parts.specs.declared.act.Act.TheVariants as rtl_act;
-ghost use Rattle.rtl_language.specs.declared.instruction.Instruction.TheVariants as rtl_instruction;
+ghost use Rattle.alloc_check_rules.specs.Act.TheVariants as rtl_act;
+ghost use Rattle.alloc_check_rules.specs.Instruction.TheVariants as rtl_instruction;
 ghost use Rattle.alloc_check_rules.specs.Pairs.{same_number, result_change, act_change, same_test, same_presence, change_of};
 
-use rtl_parts::{Act, Arguments, Register, Test};
-use ltl::Body;
-use alloc_check_rules::Change;
-use rtl_language::Instruction;
-use ints::Op;
+use alloc_check_rules::{Act, Arguments, Body, Change, Instruction, Op, Register, Test};
 use locations::{Location, Register as MachineRegister};
 
 fn same_number(names: &Arguments, locations: &machine::Arguments) -> bool

@@ -1,13 +1,12 @@
 //! A block whose moves need not be walked again.
 
 ghost use Rattle.std.specs.Prelude.{◌≡◌, IfOk};
-ghost use Rattle.ltl.specs.Function.{after_of as moves_behind};
+ghost use Rattle.alloc_check_rules.specs.Function.{after_of as moves_behind};
 ghost use Rattle.alloc_check_rules.specs.Equations.{back, demand as demand_of};
 
 use crate::demands::through_body;
 use crate::origins::Origins;
-use ltl::{Block, Body};
-use alloc_check_rules::{Change, Demand, Equation};
+use alloc_check_rules::{Block, Body, Change, Demand, Equation};
 use lang_base::NoMemory;
 use locations::{Location, Move};
 use std::alloc::Global;
@@ -23,8 +22,8 @@ pub struct TracedBlock<'a> {
 
 impl<'a> Model for TracedBlock<'a> {
     ghost use Rattle.std.specs.Prelude.{◌≡◌};
-    ghost use Rattle.ltl.specs.declared.block.Block.{Block};
-    ghost use Rattle.ltl.specs.Function.{after_of};
+    ghost use Rattle.alloc_check_rules.specs.Block.{Block};
+    ghost use Rattle.alloc_check_rules.specs.Function.{after_of};
 
     ghost Value = { Block };
 

@@ -4,8 +4,8 @@ use Rattle.std.specs.Prelude.{map, Contains}
 use Rattle.std.specs.List.{flat_map, list_any}
 use Rattle.std.proofs.lemmas.List.Elements.{Contains-get_or, All-contains, Contains-append_left, Contains-append_right, Contains-append_cases}
 use Rattle.locations.specs.declared.location.Move.{Move}
-use Rattle.rtl_language.specs.declared.instruction.Instruction.{Instruction}
-use Rattle.ltl.specs.declared.block.Block.{Block}
+use Rattle.alloc_check_rules.specs.Instruction.{Instruction}
+use Rattle.alloc_check_rules.specs.Block.{Block}
 use Rattle.alloc_check_rules.specs.declared.equation.Equation.{Equation}
 use Rattle.alloc_check_rules.specs.declared.change.Change.{Change}
 use Rattle.alloc_check_rules.specs.declared.demand.Demand.{Demand}

@@ -4,10 +4,10 @@ use Rattle.std.specs.Prelude.{Contains, slice_get}
 use Rattle.std.specs.List.{flat_map}
 use Rattle.std.proofs.lemmas.List.{get_or-drop}
 use Rattle.std.proofs.lemmas.Option.{slice_get-get_or}
-use Rattle.rtl_language.specs.declared.instruction.Instruction.{Instruction}
-use Rattle.rtl_language.specs.declared.instruction.Instruction.TheVariants.{Return}
-use Rattle.ltl.specs.declared.block.Block.{Block}
-use Rattle.ltl.specs.declared.block.Body.TheVariants as body
+use Rattle.alloc_check_rules.specs.Instruction.{Instruction}
+use Rattle.alloc_check_rules.specs.Instruction.TheVariants.{Return}
+use Rattle.alloc_check_rules.specs.Block.{Block}
+use Rattle.alloc_check_rules.specs.Body.TheVariants as body
 use Rattle.alloc_check_rules.specs.declared.equation.Equation.{Equation}
 use Rattle.alloc_check_rules.specs.Pairs.{successors_of}
 use Rattle.alloc_check_rules.specs.Rules.{equations_at}

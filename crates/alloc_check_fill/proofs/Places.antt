@@ -8,21 +8,21 @@ use Rattle.std.proofs.lemmas.List.Elements.{All-nil, All-cons, All-map, All-appe
 use Rattle.locations.specs.declared.location.Location.{Location}
 use Rattle.locations.specs.Fits.{LocationFits, MoveFits}
 use Rattle.locations.specs.Reading.{same_location}
-use Rattle.rtl_parts.specs.declared.arguments.Arguments.{Arguments}
-use Rattle.rtl_parts.specs.declared.arguments.Arguments.TheVariants.{One, Two}
-use Rattle.rtl_parts.specs.declared.act.Act.{Act}
-use Rattle.rtl_parts.specs.declared.act.Act.TheVariants.{Operate, Load, Store, Put}
-use Rattle.rtl_language.specs.declared.instruction.Instruction.{Instruction}
-use Rattle.rtl_language.specs.declared.instruction.Instruction.TheVariants.{Do, Call, Branch, Return}
+use Rattle.alloc_check_rules.specs.Arguments.{Arguments}
+use Rattle.alloc_check_rules.specs.Arguments.TheVariants.{One, Two}
+use Rattle.alloc_check_rules.specs.Act.{Act}
+use Rattle.alloc_check_rules.specs.Act.TheVariants.{Operate, Load, Store, Put}
+use Rattle.alloc_check_rules.specs.Instruction.{Instruction}
+use Rattle.alloc_check_rules.specs.Instruction.TheVariants.{Do, Call, Branch, Return}
 use Rattle.machine.specs.declared.arguments.Arguments as machine_arguments
 use Rattle.machine.specs.declared.arguments.Arguments.TheVariants as arguments
 use Rattle.machine.specs.declared.act.Act as machine_act
 use Rattle.machine.specs.declared.act.Act.TheVariants as act
 use Rattle.machine.specs.Fits as machine_fits
-use Rattle.ltl.specs.declared.block.Block.{Block}
-use Rattle.ltl.specs.declared.block.Body.{Body}
-use Rattle.ltl.specs.declared.block.Body.TheVariants as body
-use Rattle.ltl.specs.Function as ltl
+use Rattle.alloc_check_rules.specs.Block.{Block}
+use Rattle.alloc_check_rules.specs.Body.{Body}
+use Rattle.alloc_check_rules.specs.Body.TheVariants as body
+use Rattle.alloc_check_rules.specs.Function as ltl
 use Rattle.alloc_check_rules.specs.declared.equation.Equation.{Equation}
 use Rattle.alloc_check_rules.specs.declared.change.Change.{Change}
 use Rattle.alloc_check_rules.specs.declared.change.Change.TheVariants.{Nothing, Defines, Drops, Copies}

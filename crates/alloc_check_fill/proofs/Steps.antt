@@ -5,7 +5,7 @@ use Rattle.std.specs.List.{flat_map, list_any}
 use Rattle.std.proofs.lemmas.List.{length-map, get_or-map, map-append, append_assoc, append-nil, take_more}
 use Rattle.std.proofs.lemmas.List.Concat.{flat_map-append}
 use Rattle.std.proofs.lemmas.List.Folds.{list_any-append, list_any_at}
-use Rattle.ltl.specs.declared.block.Block.{Block}
+use Rattle.alloc_check_rules.specs.Block.{Block}
 use Rattle.alloc_check_rules.specs.declared.equation.Equation.{Equation}
 use Rattle.alloc_check_rules.specs.declared.change.Change.{Change}
 use Rattle.alloc_check_rules.specs.Equations.{back_equation, demand}

@@ -1,8 +1,8 @@
 -- The equations at nodes for which there is no row: what each block needs before it, found by going back from the rows.
 use Rattle.std.specs.Prelude.{ℕ, suc, ◌-◌, List, [], ◌∷◌, ◌++◌, Option, Some, None, Bool, true, false, map, slice_index_or, if◌then◌else◌}
 use Rattle.std.specs.List.{flat_map, list_any}
-use Rattle.rtl_language.specs.declared.instruction.Instruction.{Instruction}
-use Rattle.ltl.specs.declared.block.Block.{Block}
+use Rattle.alloc_check_rules.specs.Instruction.{Instruction}
+use Rattle.alloc_check_rules.specs.Block.{Block}
 use Rattle.alloc_check_rules.specs.declared.equation.Equation.{Equation}
 use Rattle.alloc_check_rules.specs.declared.change.Change.{Change}
 use Rattle.alloc_check_rules.specs.declared.demand.Demand.{Demand}

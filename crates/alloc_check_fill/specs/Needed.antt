@@ -1,8 +1,8 @@
 -- Whether a block breaks a rule, and what is told of it.
 use Rattle.std.specs.Prelude.{◌≡◌, List, ◌++◌, map, Option, Some, None, Bool, true, false}
 use Rattle.std.specs.List.{flat_map, list_any}
-use Rattle.rtl_language.specs.declared.instruction.Instruction.{Instruction}
-use Rattle.ltl.specs.declared.block.Block.{Block}
+use Rattle.alloc_check_rules.specs.Instruction.{Instruction}
+use Rattle.alloc_check_rules.specs.Block.{Block}
 use Rattle.alloc_check_rules.specs.declared.equation.Equation.{Equation}
 use Rattle.alloc_check_rules.specs.declared.change.Change.{Change}
 use Rattle.alloc_check_rules.specs.Equations.{back_equation}

@@ -2,8 +2,8 @@
 -- right by the rules.
 use Rattle.std.specs.Prelude.{◌≡◌, ℕ, ◌<◌, List, length, All}
 use Rattle.locations.specs.Fits.{LocationFits}
-use Rattle.rtl_language.specs.Function as rtl
-use Rattle.ltl.specs.Function as ltl
+use Rattle.alloc_check_rules.specs.RtlLanguageFunction as rtl
+use Rattle.alloc_check_rules.specs.Function as ltl
 use Rattle.alloc_check_rules.specs.declared.equation.Equation.{Equation}
 use Rattle.alloc_check_rules.specs.Rules.{IsRightAt}
 

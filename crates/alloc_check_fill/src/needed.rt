@@ -6,10 +6,8 @@ ghost use Rattle.alloc_check_fill.specs.Fill.{is_refused, needs_of};
 ghost use Rattle.alloc_check_fill.specs.Needed.{IsNeeded, IsNeededAs};
 
 use crate::uses::push_uses;
-use ltl::Block;
-use alloc_check_rules::{Change, Demand, Equation};
-use rtl_language::Instruction;
 use alloc_check_blocks::{TracedBlock, change_of};
+use alloc_check_rules::{Block, Change, Demand, Equation, Instruction};
 use lang_base::NoMemory;
 use std::alloc::Global;
 

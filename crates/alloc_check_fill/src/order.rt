@@ -4,8 +4,8 @@ ghost use Rattle.std.specs.Prelude.{◌≡◌, ◌↔◌, ◌<◌, IsTrue};
 ghost use Rattle.alloc_check_fill.specs.Ranks.{location_rank, rank as rank_of};
 ghost use Rattle.alloc_check_fill.specs.Sets.{SameSet};
 
-use alloc_check_rules::Equation;
 use alloc_check_blocks::is_at;
+use alloc_check_rules::Equation;
 use locations::Location;
 
 fn location_rank(location: &Location) -> u64

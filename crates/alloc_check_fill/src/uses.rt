@@ -5,11 +5,8 @@ ghost use Rattle.alloc_check_rules.specs.Equations.{back_equation};
 ghost use Rattle.alloc_check_rules.specs.Pairs.{in_register, equations_of, arguments_used, act_uses, uses};
 
 use crate::needed::push_before;
-use rtl_parts::{Act, Arguments, Register};
-use ltl::Body;
-use alloc_check_rules::Equation;
-use rtl_language::Instruction;
 use alloc_check_blocks::TracedBlock;
+use alloc_check_rules::{Act, Arguments, Body, Equation, Instruction, Register};
 use lang_base::NoMemory;
 use locations::{Location, Register as MachineRegister};
 

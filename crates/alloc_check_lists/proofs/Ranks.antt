@@ -7,8 +7,8 @@ use Rattle.std.proofs.lemmas.List.Elements.{recursion_from_All}
 use Rattle.locations.specs.declared.location.Location.{Location}
 use Rattle.locations.specs.declared.location.Location.TheVariants.{InRegister, InSlot}
 use Rattle.locations.specs.Fits.{LocationFits}
-use Rattle.alloc_check_rules.specs.declared.equation.Equation.{Equation}
-use Rattle.alloc_check_rules.specs.Rules.{EquationFits, IsLower, IsBefore, Rise, IsInOrder}
+use Rattle.alloc_check_fill.specs.Equation.{Equation}
+use Rattle.alloc_check_fill.specs.Rules.{EquationFits, IsLower, IsBefore, Rise, IsInOrder}
 use Rattle.alloc_check_fill.specs.Ranks.{location_rank, rank}
 use Rattle.alloc_check_lists.specs.Ranks.{RiseFrom}
 

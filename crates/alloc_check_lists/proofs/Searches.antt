@@ -3,7 +3,7 @@ use Rattle.std.proofs.Common.{◌≡◌, ℕ, ◌+◌, ◌<◌, ◌≤◌, List,
 use Rattle.std.specs.Prelude.{◌↔◌, Contains}
 use Rattle.std.proofs.lemmas.Bool.{cases_eq, cases_lt}
 use Rattle.std.proofs.lemmas.List.{get_or_default}
-use Rattle.alloc_check_rules.specs.declared.equation.Equation.{Equation}
+use Rattle.alloc_check_fill.specs.Equation.{Equation}
 use Rattle.alloc_check_fill.specs.Ranks.{rank}
 use Rattle.alloc_check_lists.specs.Ranks.{RiseFrom}
 use Rattle.alloc_check_lists.proofs.Ranks.{higher}

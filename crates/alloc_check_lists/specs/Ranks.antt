@@ -1,6 +1,6 @@
 -- Equations in order, by numbers.
 use Rattle.std.specs.Prelude.{ℕ, suc, ◌<◌, ◌≤◌, List, [], ◌∷◌, length, get_or}
-use Rattle.alloc_check_rules.specs.declared.equation.Equation.{Equation}
+use Rattle.alloc_check_fill.specs.Equation.{Equation}
 use Rattle.alloc_check_fill.specs.Ranks.{rank}
 
 -- each rank is above those before it, and none is lower than this

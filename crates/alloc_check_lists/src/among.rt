@@ -3,8 +3,7 @@
 ghost use Rattle.std.specs.Prelude.{◌↔◌, ◌<◌, ◌≤◌, length, All, IsTrue, IfSome, IfNone, Contains};
 ghost use Rattle.alloc_check_lists.specs.Ranks.{RiseFrom, AreLower, AreNoLower};
 
-use alloc_check_rules::Equation;
-use alloc_check_fill::{is_same, rank};
+use alloc_check_fill::{Equation, is_same, rank};
 
 /// How many equations have lower ranks.
 fn first_from(equations: &[Equation], least: u64) -> usize

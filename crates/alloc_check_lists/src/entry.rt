@@ -1,14 +1,11 @@
 //! Whether equations hold at the entry, of parameters and their locations.
 
 ghost use Rattle.std.specs.Prelude.{◌≢◌, ◌↔◌, IsTrue, All, Contains};
-ghost use Rattle.alloc_check_rules.specs.Pairs.{equations_of};
-ghost use Rattle.alloc_check_rules.specs.Rules.{IsNoParameter, HoldsAtEntry};
+ghost use Rattle.alloc_check_fill.specs.Pairs.{equations_of};
+ghost use Rattle.alloc_check_fill.specs.Rules.{IsNoParameter, HoldsAtEntry};
 
-use alloc_check_rules::Equation;
-use alloc_check_blocks::is_at;
-use alloc_check_fill::{is_same, pair_at};
+use alloc_check_fill::{Equation, Register, is_at, is_same, pair_at};
 use locations::Location;
-use rtl_parts::Register;
 
 /// Whether the equation is of one of the registers and the location that the list has for it.
 fn is_parameter(registers: &[Register], locations: &[Location], equation: &Equation) -> bool

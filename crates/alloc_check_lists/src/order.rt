@@ -2,11 +2,10 @@
 
 ghost use Rattle.std.specs.Prelude.{◌↔◌, All, IsTrue};
 ghost use Rattle.locations.specs.Fits.{LocationFits};
-ghost use Rattle.alloc_check_rules.specs.Rules.{EquationFits, IsInOrder};
+ghost use Rattle.alloc_check_fill.specs.Rules.{EquationFits, IsInOrder};
 ghost use Rattle.alloc_check_lists.specs.Ranks.{RiseFrom};
 
-use alloc_check_rules::Equation;
-use alloc_check_fill::rank;
+use alloc_check_fill::{Equation, rank};
 use locations::{Location, REGISTER_COUNT};
 
 /// Whether the equations can be those of a row: few, in range and in order.

@@ -6,8 +6,8 @@ ghost use Rattle.alloc_check_live.specs.Tables.{added, added_to_each, IsIndex};
 
 use crate::numbers::Numbers;
 use crate::uses::{push_successors, push_used};
-use rtl_language::Instruction;
 use lang_base::NoMemory;
+use rtl_language::Instruction;
 use std::alloc::Global;
 
 /// So many lists of no numbers.

@@ -5,9 +5,9 @@ ghost use Rattle.alloc_check_rules.specs.Pairs.{successors_of};
 ghost use Rattle.alloc_check_live.specs.Liveness.{named, used_by_act, used_by, defined_by_act, defined_by};
 ghost use Rattle.alloc_check_live.specs.Walks.{defines};
 
-use rtl_language::Instruction;
 use lang_base::NoMemory;
-use rtl_parts::{Act, Arguments, Register};
+use rtl_acts::{Act, Arguments, Register};
+use rtl_language::Instruction;
 
 fn push_named(out: &mut Vec<Register>, arguments: &Arguments) -> Result<(), NoMemory>
     ensures { OnOk result (out.new.items ≡ out.old.items ++ named arguments.now) }

@@ -9,9 +9,9 @@ ghost use Rattle.alloc_check_live.specs.Walks.{kept, LeavesEntered, EntersNew};
 use crate::index::{add, empty_lists, leading, users};
 use crate::numbers::{Numbers, ends_with, numbers_at};
 use crate::uses::defines;
-use rtl_language::{Function, Instruction};
 use lang_base::NoMemory;
-use rtl_parts::Register;
+use rtl_acts::Register;
+use rtl_language::{Function, Instruction};
 use std::alloc::Global;
 
 /// Puts the nodes that do not define the register on the stack.

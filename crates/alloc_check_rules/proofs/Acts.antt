@@ -12,20 +12,20 @@ use Rattle.ints.specs.CondTable.{cond_table}
 use Rattle.ints.proofs.Codes.{op_of_code-code_of}
 use Rattle.ints.proofs.CondCodes.{cond_of_code-cond_code_of}
 use Rattle.locations.specs.declared.location.Location.TheVariants.{InRegister}
-use Rattle.rtl_parts.specs.declared.arguments.Arguments.{Arguments}
-use Rattle.rtl_parts.specs.declared.arguments.Arguments.TheVariants.{One, Two}
-use Rattle.rtl_parts.specs.declared.act.Act.{Act}
-use Rattle.rtl_parts.specs.declared.act.Act.TheVariants.{Nop, Constant, Move, Operate, Load, Store, Put}
-use Rattle.rtl_parts.specs.declared.test.Test.{Test}
-use Rattle.rtl_parts.specs.Data as rtl_data
-use Rattle.rtl_parts.specs.Acts as rtl_acts
-use Rattle.machine.specs.declared.arguments.Arguments as machine_arguments
-use Rattle.machine.specs.declared.arguments.Arguments.TheVariants as arguments
-use Rattle.machine.specs.declared.act.Act as machine_act
-use Rattle.machine.specs.declared.act.Act.TheVariants as act
-use Rattle.machine.specs.declared.test.Test as machine_test
-use Rattle.machine.specs.Data.{Data, value_at, put_at}
-use Rattle.machine.specs.Acts.{pair_of, words_of, given, word_in, changed, stored, printing, holds}
+use Rattle.rtl_passes.specs.Arguments.{Arguments}
+use Rattle.rtl_passes.specs.Arguments.TheVariants.{One, Two}
+use Rattle.rtl_passes.specs.Act.{Act}
+use Rattle.rtl_passes.specs.Act.TheVariants.{Nop, Constant, Move, Operate, Load, Store, Put}
+use Rattle.rtl_passes.specs.Test.{Test}
+use Rattle.rtl_passes.specs.Data as rtl_data
+use Rattle.rtl_passes.specs.Acts as rtl_acts
+use Rattle.ltl.specs.Arguments as machine_arguments
+use Rattle.ltl.specs.Arguments.TheVariants as arguments
+use Rattle.ltl.specs.Act as machine_act
+use Rattle.ltl.specs.Act.TheVariants as act
+use Rattle.ltl.specs.Test as machine_test
+use Rattle.ltl.specs.Data.{Data, value_at, put_at}
+use Rattle.ltl.specs.Acts.{pair_of, words_of, given, word_in, changed, stored, printing, holds}
 use Rattle.ltl.specs.Meaning.{does_any}
 use Rattle.alloc_check_rules.specs.declared.change.Change.{Change}
 use Rattle.alloc_check_rules.specs.declared.change.Change.TheVariants.{Nothing, Defines, Drops, Copies}

@@ -8,10 +8,10 @@ use Rattle.locations.specs.declared.location.Location.TheVariants.{InRegister, I
 use Rattle.locations.specs.declared.location.Move.{Move}
 use Rattle.locations.specs.Fits.{LocationFits, MoveFits}
 use Rattle.locations.specs.Reading.{same_location}
-use Rattle.rtl_parts.specs.Data as rtl_data
-use Rattle.rtl_parts.specs.Acts as rtl_acts
-use Rattle.machine.specs.Data.{Data, value_at, put_at, all_moved}
-use Rattle.machine.specs.Frames.{after_call, with_result}
+use Rattle.rtl_passes.specs.Data as rtl_data
+use Rattle.rtl_passes.specs.Acts as rtl_acts
+use Rattle.ltl.specs.Data.{Data, value_at, put_at, all_moved}
+use Rattle.ltl.specs.Frames.{after_call, with_result}
 use Rattle.alloc_check_rules.specs.declared.equation.Equation.{Equation}
 use Rattle.alloc_check_rules.specs.declared.change.Change.{Change}
 use Rattle.alloc_check_rules.specs.declared.change.Change.TheVariants.{Nothing, Defines, Drops, Copies}

@@ -6,11 +6,11 @@ use Rattle.std.proofs.lemmas.List.{get_or-set_other}
 use Rattle.std.proofs.lemmas.List.Elements.{recursion_from_All, All-tail}
 use Rattle.locations.specs.declared.location.Location.{Location}
 use Rattle.locations.specs.Fits.{LocationFits, AreDistinct, ParametersFit}
-use Rattle.rtl_parts.specs.Data as rtl_data
-use Rattle.rtl_parts.specs.Fits as rtl_fits
-use Rattle.rtl_language.specs.Frames as rtl_frames
-use Rattle.machine.specs.Data.{Data, value_at, put_at}
-use Rattle.machine.specs.Calls.{values_of, with_arguments}
+use Rattle.rtl_passes.specs.Data as rtl_data
+use Rattle.rtl_passes.specs.Fits as rtl_fits
+use Rattle.rtl_passes.specs.Frames as rtl_frames
+use Rattle.ltl.specs.Data.{Data, value_at, put_at}
+use Rattle.ltl.specs.Calls.{values_of, with_arguments}
 use Rattle.ltl.proofs.Outputs.{output-put_at}
 use Rattle.alloc_check_rules.specs.declared.equation.Equation.{Equation}
 use Rattle.alloc_check_rules.specs.Pairs.{equations_of}

@@ -8,7 +8,7 @@ use Rattle.locations.specs.declared.location.Location.TheVariants.{InRegister, I
 use Rattle.locations.specs.declared.location.Move.{Move}
 use Rattle.locations.specs.Fits.{LocationFits, MoveFits}
 use Rattle.locations.specs.Reading.{same_location}
-use Rattle.machine.specs.Data.{Data, value_at, put_at, moved, all_moved}
+use Rattle.ltl.specs.Data.{Data, value_at, put_at, moved, all_moved}
 use Rattle.alloc_check_rules.specs.Equations.{back_move, back}
 use Rattle.alloc_check_rules.specs.Holding.{Covers, HasFrame}
 

@@ -10,7 +10,7 @@ use Rattle.locations.specs.declared.location.Location.{Location}
 use Rattle.locations.specs.declared.location.Location.TheVariants.{InRegister, InSlot}
 use Rattle.locations.specs.Fits.{LocationFits}
 use Rattle.locations.specs.Spelling.{location_text}
-use Rattle.rtl_parts.specs.Spelling.{register_text}
+use Rattle.rtl_passes.specs.RtlActsSpelling.{register_text}
 use Rattle.alloc_check_rules.specs.declared.equation.Equation.{Equation}
 use Rattle.alloc_check_rules.specs.Rules.{EquationFits, IsLower, IsBefore}
 

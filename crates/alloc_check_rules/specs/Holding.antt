@@ -1,7 +1,7 @@
 -- When an equation holds of what both functions work on (Rideau and Leroy 2010: the location has the register's word).
 use Rattle.std.specs.Prelude.{◌≡◌, ℕ, List, [], ◌∷◌, length, Option, Some}
-use Rattle.rtl_parts.specs.Data as rtl_data
-use Rattle.machine.specs.Data.{Data, value_at}
+use Rattle.rtl_passes.specs.Data as rtl_data
+use Rattle.ltl.specs.Data.{Data, value_at}
 use Rattle.alloc_check_rules.specs.declared.equation.Equation.{Equation}
 use Rattle.alloc_check_rules.specs.declared.demand.Demand.{Demand}
 use Rattle.alloc_check_rules.specs.declared.demand.Demand.TheVariants.{Met, Refused, Needs}

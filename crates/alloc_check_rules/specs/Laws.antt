@@ -7,18 +7,18 @@ use Rattle.locations.specs.declared.location.Location.{Location}
 use Rattle.locations.specs.declared.location.Move.{Move}
 use Rattle.locations.specs.Fits.{LocationFits, MovesFit, ParametersFit}
 use Rattle.locations.specs.Spelling.{location_text}
-use Rattle.rtl_parts.specs.Spelling.{register_text}
-use Rattle.rtl_parts.specs.declared.act.Act.{Act}
-use Rattle.rtl_parts.specs.declared.test.Test.{Test}
-use Rattle.rtl_parts.specs.Data as rtl_data
-use Rattle.rtl_parts.specs.Acts as rtl_acts
-use Rattle.rtl_parts.specs.Fits as rtl_fits
-use Rattle.rtl_language.specs.Frames as rtl_frames
-use Rattle.machine.specs.declared.act.Act as machine_act
-use Rattle.machine.specs.declared.test.Test as machine_test
-use Rattle.machine.specs.Data.{Data, value_at, all_moved}
-use Rattle.machine.specs.Acts.{holds}
-use Rattle.machine.specs.Calls.{with_arguments}
+use Rattle.rtl_passes.specs.RtlActsSpelling.{register_text}
+use Rattle.rtl_passes.specs.Act.{Act}
+use Rattle.rtl_passes.specs.Test.{Test}
+use Rattle.rtl_passes.specs.Data as rtl_data
+use Rattle.rtl_passes.specs.Acts as rtl_acts
+use Rattle.rtl_passes.specs.Fits as rtl_fits
+use Rattle.rtl_passes.specs.Frames as rtl_frames
+use Rattle.ltl.specs.Act as machine_act
+use Rattle.ltl.specs.Test as machine_test
+use Rattle.ltl.specs.Data.{Data, value_at, all_moved}
+use Rattle.ltl.specs.Acts.{holds}
+use Rattle.ltl.specs.Calls.{with_arguments}
 use Rattle.ltl.specs.Meaning.{does_any}
 use Rattle.alloc_check_rules.specs.declared.equation.Equation as equation
 use Rattle.alloc_check_rules.specs.declared.change.Change as change

@@ -5,18 +5,18 @@ use Rattle.ints.specs.Codes.{code_of}
 use Rattle.ints.specs.Conditions.{cond_code_of}
 use Rattle.locations.specs.declared.location.Location.{Location}
 use Rattle.locations.specs.declared.location.Location.TheVariants.{InRegister}
-use Rattle.rtl_parts.specs.declared.arguments.Arguments.{Arguments}
-use Rattle.rtl_parts.specs.declared.arguments.Arguments.TheVariants.{One, Two}
-use Rattle.rtl_parts.specs.declared.act.Act.{Act}
-use Rattle.rtl_parts.specs.declared.act.Act.TheVariants.{Nop, Constant, Move, Operate, Load, Store, Put}
-use Rattle.rtl_parts.specs.declared.test.Test.{Test}
-use Rattle.rtl_language.specs.declared.instruction.Instruction.{Instruction}
-use Rattle.rtl_language.specs.declared.instruction.Instruction.TheVariants.{Do, Call, Branch, Return}
-use Rattle.machine.specs.declared.arguments.Arguments as machine_arguments
-use Rattle.machine.specs.declared.arguments.Arguments.TheVariants as arguments
-use Rattle.machine.specs.declared.act.Act as machine_act
-use Rattle.machine.specs.declared.act.Act.TheVariants as act
-use Rattle.machine.specs.declared.test.Test as machine_test
+use Rattle.rtl_passes.specs.Arguments.{Arguments}
+use Rattle.rtl_passes.specs.Arguments.TheVariants.{One, Two}
+use Rattle.rtl_passes.specs.Act.{Act}
+use Rattle.rtl_passes.specs.Act.TheVariants.{Nop, Constant, Move, Operate, Load, Store, Put}
+use Rattle.rtl_passes.specs.Test.{Test}
+use Rattle.rtl_passes.specs.Instruction.{Instruction}
+use Rattle.rtl_passes.specs.Instruction.TheVariants.{Do, Call, Branch, Return}
+use Rattle.ltl.specs.Arguments as machine_arguments
+use Rattle.ltl.specs.Arguments.TheVariants as arguments
+use Rattle.ltl.specs.Act as machine_act
+use Rattle.ltl.specs.Act.TheVariants as act
+use Rattle.ltl.specs.Test as machine_test
 use Rattle.ltl.specs.declared.block.Body.{Body}
 use Rattle.ltl.specs.declared.block.Body.TheVariants as body
 use Rattle.alloc_check_rules.specs.declared.equation.Equation.{Equation}

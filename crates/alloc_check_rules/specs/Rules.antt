@@ -5,9 +5,9 @@ use Rattle.locations.specs.declared.location.Location.{Location}
 use Rattle.locations.specs.declared.location.Location.TheVariants.{InRegister, InSlot}
 use Rattle.locations.specs.declared.location.Move.{Move}
 use Rattle.locations.specs.Fits.{LocationFits}
-use Rattle.rtl_parts.specs.Fits.{RegisterFits}
-use Rattle.rtl_language.specs.declared.instruction.Instruction.{Instruction}
-use Rattle.rtl_language.specs.Function as rtl
+use Rattle.rtl_passes.specs.Fits.{RegisterFits}
+use Rattle.rtl_passes.specs.Instruction.{Instruction}
+use Rattle.rtl_passes.specs.Function as rtl
 use Rattle.ltl.specs.declared.block.Block.{Block}
 use Rattle.ltl.specs.Function as ltl
 use Rattle.rtl_passes.specs.Faults.{KeepsRules}

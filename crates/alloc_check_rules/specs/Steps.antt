@@ -1,9 +1,9 @@
 -- How an instruction and its body change what they work on, beside each other.
 use Rattle.std.specs.Prelude.{◌≡◌, ℕ, Option, Some, slice_set}
 use Rattle.locations.specs.declared.location.Location.{Location}
-use Rattle.rtl_parts.specs.Data as rtl_data
-use Rattle.machine.specs.Data.{Data, put_at}
-use Rattle.machine.specs.Frames.{after_call}
+use Rattle.rtl_passes.specs.Data as rtl_data
+use Rattle.ltl.specs.Data.{Data, put_at}
+use Rattle.ltl.specs.Frames.{after_call}
 use Rattle.alloc_check_rules.specs.declared.change.Change.{Change}
 use Rattle.alloc_check_rules.specs.declared.change.Change.TheVariants.{Nothing, Defines, Drops, Copies}
 use Rattle.alloc_check_rules.specs.Holding.{Covers}

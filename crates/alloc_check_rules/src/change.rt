@@ -1,5 +1,5 @@
 use locations::Location;
-use rtl_parts::Register;
+use rtl_passes::Register;
 
 /// What an instruction and the body that stands for it define.
 #[derive(Clone, Copy)]

@@ -1,5 +1,5 @@
 use locations::Location;
-use rtl_parts::Register;
+use rtl_passes::Register;
 
 /// At a node the location holds the register's word, where the register has one.
 #[derive(Clone, Copy)]

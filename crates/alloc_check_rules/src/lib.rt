@@ -12,7 +12,10 @@ mod law;
 pub use change::Change;
 pub use demand::Demand;
 pub use equation::Equation;
+pub use ints::Op;
 pub use law::{
     acts_agree, calls_keep, demands_suffice, entries_hold, order_is_of_bytes, origins_hold,
     tests_agree,
 };
+pub use ltl::{Block, Body};
+pub use rtl_passes::{Act, Arguments, Instruction, Register, Test};

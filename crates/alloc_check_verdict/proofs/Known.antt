@@ -17,11 +17,11 @@ use Rattle.rtl_passes_marks.proofs.Handings.{spread_at}
 use Rattle.alloc_check_rules.specs.declared.equation.Equation.{Equation}
 use Rattle.alloc_check_rules.specs.Pairs.{successors_of}
 use Rattle.alloc_check_rules.specs.Rules.{EquationFits, equations_at, IsInOrder}
-use Rattle.alloc_check_fill.specs.Sets.{SameSet}
-use Rattle.alloc_check_fill.proofs.Fixed.{row_is}
-use Rattle.alloc_check_filled.specs.Allocated.{is_none, is_marked, filled, HasForm}
-use Rattle.alloc_check_filled.proofs.Marks.{fed_by}
-use Rattle.alloc_check_filled.proofs.Right.{at_rows}
+use Rattle.alloc_check_proof.specs.Sets.{SameSet}
+use Rattle.alloc_check_proof.proofs.Fixed.{row_is}
+use Rattle.alloc_check_proof.specs.Allocated.{is_none, is_marked, filled, HasForm}
+use Rattle.alloc_check_proof.proofs.Marks.{fed_by}
+use Rattle.alloc_check_proof.proofs.Right.{at_rows}
 use Rattle.alloc_check_lists.specs.Ranks.{RiseFrom}
 use Rattle.alloc_check_verdict.specs.Walk.{stands_at, AreTaken, IsSaid, IsKnownFrom}
 use Rattle.alloc_check_lists.proofs.Ranks.{rise_ranks}

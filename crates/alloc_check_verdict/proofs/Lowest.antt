@@ -1,7 +1,7 @@
 -- The lowest wrong node, found from the last node down.
 use Rattle.std.proofs.Common.{◌≡◌, ℕ, zero, suc, ◌+◌, ◌<◌, ◌≤◌, List, [], ◌∷◌, ◌++◌, length, take, refl, ap, Option, Some, None, subst, sym, arith, inl, inr}
 use Rattle.std.proofs.lemmas.Bool.{cases_eq}
-use Rattle.rtl_passes.specs.Faults.{TellsLowest}
+use Rattle.rtl_passes_marks.specs.Faults.{TellsLowest}
 use Rattle.alloc_check_verdict.specs.Walk.{TellsFrom}
 
 module _ (Right : ℕ → Type 0) (count : ℕ) where

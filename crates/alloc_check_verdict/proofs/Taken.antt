@@ -8,9 +8,9 @@ use Rattle.rtl_passes_marks.specs.Handing.{is_fed_by, standing, left_by}
 use Rattle.rtl_passes_marks.proofs.Handings.{left_count}
 use Rattle.alloc_check_rules.specs.declared.equation.Equation.{Equation}
 use Rattle.alloc_check_rules.specs.Rules.{equations_at}
-use Rattle.alloc_check_fill.specs.Sets.{SameSet}
-use Rattle.alloc_check_fill.proofs.Members.{first_of, later_of}
-use Rattle.alloc_check_fill.proofs.Blocks.{same_of}
+use Rattle.alloc_check_proof.specs.Sets.{SameSet}
+use Rattle.alloc_check_proof.proofs.Members.{first_of, later_of}
+use Rattle.alloc_check_proof.proofs.Blocks.{same_of}
 use Rattle.alloc_check_verdict.specs.Walk.{stands_at, AreTaken}
 
 left_keeps : (o : Option (Option ℕ)) (s k : ℕ) (lists : List (List Equation)) → (k ≡ s → is_fed_by o ≡ false) → equations_at (left_by o s lists) k ≡ equations_at lists k

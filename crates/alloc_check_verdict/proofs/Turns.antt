@@ -15,15 +15,15 @@ use Rattle.alloc_check_rules.specs.declared.equation.Equation.{Equation}
 use Rattle.alloc_check_rules.specs.declared.change.Change.{Change}
 use Rattle.alloc_check_rules.specs.Pairs.{change_of, successors_of}
 use Rattle.alloc_check_rules.specs.Rules.{equations_at, StandsFor, HoldsAtEntry, IsRightAs, IsRightAt}
-use Rattle.alloc_check_fill.specs.Fill.{needed, behind}
-use Rattle.alloc_check_fill.specs.Needed.{Keeps}
-use Rattle.alloc_check_fill.specs.Sets.{SameSet}
-use Rattle.alloc_check_fill.proofs.Members.{all_members}
-use Rattle.alloc_check_fill.proofs.Carried.{needed_same}
-use Rattle.alloc_check_fill.proofs.Blocks.{same_of, same_through, joined_sets, keeps_same, stands_keep, needs_there, keeps_stand}
-use Rattle.alloc_check_fill.proofs.Fixed.{needed_is}
-use Rattle.alloc_check_filled.specs.Allocated.{is_marked, filled}
-use Rattle.alloc_check_filled.proofs.Marks.{fed_by, entry_marked, within}
+use Rattle.alloc_check_proof.specs.Fill.{needed, behind}
+use Rattle.alloc_check_proof.specs.Needed.{Keeps}
+use Rattle.alloc_check_proof.specs.Sets.{SameSet}
+use Rattle.alloc_check_proof.proofs.Members.{all_members}
+use Rattle.alloc_check_proof.proofs.Carried.{needed_same}
+use Rattle.alloc_check_proof.proofs.Blocks.{same_of, same_through, joined_sets, keeps_same, stands_keep, needs_there, keeps_stand}
+use Rattle.alloc_check_proof.proofs.Fixed.{needed_is}
+use Rattle.alloc_check_proof.specs.Allocated.{is_marked, filled}
+use Rattle.alloc_check_proof.proofs.Marks.{fed_by, entry_marked, within}
 use Rattle.alloc_check_verdict.specs.Right.{BeginsRight}
 use Rattle.alloc_check_verdict.specs.Walk.{stands_at, IsSaid, IsKnownFrom}
 use Rattle.alloc_check_verdict.proofs.Known.{stands_marked, stands_fed}

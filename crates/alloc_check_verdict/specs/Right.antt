@@ -3,11 +3,11 @@ use Rattle.std.specs.Prelude.{◌≡◌, ℕ, List, All, length, Option}
 use Rattle.rtl_language.specs.Function as rtl
 use Rattle.ltl.specs.Function as ltl
 use Rattle.lang_base.specs.declared.fault.Fault.{Fault}
-use Rattle.rtl_passes.specs.Faults.{TellsFault}
+use Rattle.rtl_passes_marks.specs.Faults.{TellsFault}
 use Rattle.rtl_passes_marks.specs.declared.row.NodeRow.{NodeRow}
 use Rattle.alloc_check_rules.specs.declared.equation.Equation.{Equation}
 use Rattle.alloc_check_rules.specs.Rules.{HoldsAtEntry, IsRightAt}
-use Rattle.alloc_check_filled.specs.Allocated.{filled, HasForm}
+use Rattle.alloc_check_proof.specs.Allocated.{filled, HasForm}
 
 -- the equations of a node hold at the entry, if the node is that
 abbrev pub BeginsRight : rtl.FunctionData → ltl.FunctionData → ℕ → List Equation → Type 0

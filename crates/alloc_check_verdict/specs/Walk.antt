@@ -7,8 +7,8 @@ use Rattle.rtl_passes_marks.specs.Marks.{feeder}
 use Rattle.rtl_passes_marks.specs.Handing.{is_fed_by, standing}
 use Rattle.alloc_check_rules.specs.declared.equation.Equation.{Equation}
 use Rattle.alloc_check_rules.specs.Rules.{equations_at, IsRightAt}
-use Rattle.alloc_check_fill.specs.Sets.{SameSet}
-use Rattle.alloc_check_filled.specs.Allocated.{is_marked, filled}
+use Rattle.alloc_check_proof.specs.Sets.{SameSet}
+use Rattle.alloc_check_proof.specs.Allocated.{is_marked, filled}
 use Rattle.alloc_check_verdict.specs.declared.found.Found.{Found}
 use Rattle.alloc_check_verdict.specs.declared.found.Found.TheVariants.{Borrowed, Taken}
 

@@ -1,11 +1,11 @@
 //! Lists of equations that are carried on: in order, each equation once.
 
 ghost use Rattle.std.specs.Prelude.{◌↔◌, IsTrue};
-ghost use Rattle.alloc_check_fill.specs.Sets.{SameSet};
+ghost use Rattle.alloc_check_proof.specs.Sets.{SameSet};
 ghost use Rattle.alloc_check_lists.specs.Ranks.{RiseFrom};
 
+use alloc_check_proof::{rank, tidy};
 use alloc_check_rules::Equation;
-use alloc_check_fill::{rank, tidy};
 
 /// Whether each rank is above those before it.
 fn rise(equations: &[Equation]) -> bool

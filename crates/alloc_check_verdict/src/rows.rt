@@ -2,14 +2,14 @@
 
 ghost use Rattle.std.specs.Prelude.{◌↔◌, IsTrue};
 ghost use Rattle.rtl_passes_marks.specs.Marks.{AreFeeders};
-ghost use Rattle.alloc_check_fill.specs.Right.{SameShape};
-ghost use Rattle.alloc_check_filled.specs.Allocated.{HasForm};
+ghost use Rattle.alloc_check_proof.specs.Right.{SameShape};
+ghost use Rattle.alloc_check_proof.specs.Allocated.{HasForm};
 
-use rtl_passes_marks::{Entries, NodeRow, are_rows};
-use alloc_check_laws::{push_equation, read_equation};
-use alloc_check_rules::Equation;
 use alloc_check_lists::is_in_order;
+use alloc_check_proof::{push_equation, read_equation};
+use alloc_check_rules::Equation;
 use lang_base::{FormError, NoMemory, Row};
+use rtl_passes_marks::{Entries, NodeRow, are_rows};
 
 /// The certificate: at marked nodes the equations that hold there. Anybody may propose one, so nothing
 /// is promised of it.
@@ -30,8 +30,8 @@ impl Entries for Equations {
     ghost use Rattle.lang_base.specs.Reading.{Reading, IsRead};
     ghost use Rattle.lang_base.specs.Texts.{Appends};
     ghost use Rattle.alloc_check_rules.specs.Rules.{IsInOrder};
-    ghost use Rattle.alloc_check_laws.specs.Reading.{equation};
-    ghost use Rattle.alloc_check_laws.specs.Text.{equation_text};
+    ghost use Rattle.alloc_check_proof.specs.Reading.{equation};
+    ghost use Rattle.alloc_check_proof.specs.Text.{equation_text};
 
     type Entry = Equation;
 

@@ -1,14 +1,13 @@
 //! Whether an output is accepted, and where it is not.
 
 ghost use Rattle.std.specs.Prelude.{◌↔◌, IsTrue, IfOk};
-ghost use Rattle.alloc_check_filled.specs.Allocated.{IsAllocated};
+ghost use Rattle.alloc_check_proof.specs.Allocated.{IsAllocated};
 ghost use Rattle.alloc_check_verdict.specs.Right.{TellsWhy};
 
 use crate::rows::{EquationLists, has_form};
 use crate::walk::lowest_wrong;
-use lang_base::Fault;
+use lang_base::{Fault, NoMemory};
 use rtl_passes_marks::feeders_of;
-use lang_base::NoMemory;
 use std::alloc::Global;
 
 /// What is wrong with the output and the rows, if anything is. `Shape`: the entries, or the numbers of parameters or of

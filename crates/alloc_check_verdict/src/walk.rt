@@ -5,29 +5,28 @@
 ghost use Rattle.std.specs.Prelude.{◌≡◌, ◌↔◌, ◌<◌, [], ◌∷◌, ◌++◌, length, All, Contains, Some, slice_get, IsTrue, IfOk, OnOk};
 ghost use Rattle.std.specs.List.{AllByRecursion, flat_map};
 ghost use Rattle.rtl_language.specs.Function.{IsFunction};
-ghost use Rattle.rtl_passes.specs.Faults.{TellsLowest};
+ghost use Rattle.rtl_passes_marks.specs.Faults.{TellsLowest};
 ghost use Rattle.rtl_passes_marks.specs.Handing.{left_by};
 ghost use Rattle.rtl_passes_marks.specs.Marks.{AreFeeders, IsMarked};
 ghost use Rattle.alloc_check_rules.specs.Pairs.{successors_of};
 ghost use Rattle.alloc_check_rules.specs.Rules.{equations_at, IsRightAt};
-ghost use Rattle.alloc_check_fill.specs.Fill.{behind, needed};
-ghost use Rattle.alloc_check_fill.specs.Needed.{Keeps};
-ghost use Rattle.alloc_check_fill.specs.Sets.{SameSet};
-ghost use Rattle.alloc_check_filled.specs.Allocated.{filled, HasForm};
+ghost use Rattle.alloc_check_proof.specs.Fill.{behind, needed};
+ghost use Rattle.alloc_check_proof.specs.Needed.{Keeps};
+ghost use Rattle.alloc_check_proof.specs.Sets.{SameSet};
+ghost use Rattle.alloc_check_proof.specs.Allocated.{filled, HasForm};
 ghost use Rattle.alloc_check_lists.specs.Ranks.{RiseFrom};
 ghost use Rattle.alloc_check_verdict.specs.Right.{BeginsRight};
 ghost use Rattle.alloc_check_verdict.specs.Walk.{stands_at, found_in, AreTaken, GoesBack};
 
 use crate::carried::put_in_order;
 use crate::found::{Found, equations_in};
-use rtl_language::Instruction;
-use rtl_passes_marks::{NodeRow, Said, is_fed, take};
-use rtl_passes::empty_lists;
-use alloc_check_rules::Equation;
 use alloc_check_lists::{are_among, hold_at_entry};
-use alloc_check_fill::needed_before;
+use alloc_check_proof::needed_before;
+use alloc_check_rules::Equation;
 use lang_base::{NoMemory, Row};
 use ltl::Block;
+use rtl_language::Instruction;
+use rtl_passes_marks::{NodeRow, Said, empty_lists, is_fed, take};
 use std::alloc::Global;
 
 /// The equations at a node: a row's are borrowed, and a list that was carried there is taken away.

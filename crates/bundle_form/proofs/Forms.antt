@@ -7,7 +7,7 @@ use Rattle.lang_base.specs.Texts.{counted_text, EachFits}
 use Rattle.lang_base.proofs.Forms.{IsForm}
 use Rattle.lang_base.proofs.Parts.{byte_form, number32_form, made_form, fits_form, up_to_form, both_form}
 use Rattle.lang_base.proofs.Lists.{more_form, counted_form, each_fits, fits_each, tagged_form}
-use Rattle.lang_parts.specs.Limits.{function_limit}
+use Rattle.lang_helpers.specs.Limits.{function_limit}
 use Rattle.bundle_form.specs.declared.bundle.Texts.{Texts}
 use Rattle.bundle_form.specs.declared.bundle.Bundle.{Bundle}
 use Rattle.bundle_form.specs.Form.{AreBytes, BlockFits, TextsFit, IsBundle, block_text, texts_text, bundle_text}

@@ -2,7 +2,7 @@
 use Rattle.std.specs.Prelude.{◌≡◌, ◌<◌, ◌≤◌, ◌^◌, ℕ, List, ◌∷◌, ◌++◌, All, length}
 use Rattle.std.specs.Int.{w32, to_be_bytes}
 use Rattle.std.specs.List.{AllByRecursion, flat_map}
-use Rattle.lang_parts.specs.Limits.{function_limit}
+use Rattle.lang_helpers.specs.Limits.{function_limit}
 use Rattle.bundle_form.specs.declared.bundle.Texts.{Texts}
 use Rattle.bundle_form.specs.declared.bundle.Bundle.{Bundle}
 

@@ -4,7 +4,7 @@ use Rattle.std.specs.Int.{w32}
 use Rattle.lang_base.specs.declared.errors.FormError.{FormError}
 use Rattle.lang_base.specs.declared.errors.FormError.TheVariants.{NoMemory, NotCanonical}
 use Rattle.lang_base.specs.Reading.{Reading, ◌>>=◌, byte, number, made, up_to, both, more, counted, tagged}
-use Rattle.lang_parts.specs.Limits.{function_limit}
+use Rattle.lang_helpers.specs.Limits.{function_limit}
 use Rattle.bundle_form.specs.declared.bundle.Texts.{Texts}
 use Rattle.bundle_form.specs.declared.bundle.Bundle.{Bundle}
 

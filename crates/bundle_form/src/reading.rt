@@ -8,7 +8,7 @@ ghost use Rattle.bundle_form.specs.declared.bundle.Bundle.{Bundle};
 
 use crate::bundle::{Bundle, Texts};
 use lang_base::{FormError, Row, read_byte, read_count, read_u32};
-use lang_parts::{Byte, ReadOne, are_bytes, read_so_many};
+use lang_helpers::{Byte, ReadOne, are_bytes, read_so_many};
 use std::alloc::Global;
 
 /// So many bytes, in one copy. Where fewer are there, nothing is copied.

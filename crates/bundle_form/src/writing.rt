@@ -6,7 +6,7 @@ ghost use Rattle.bundle_form.specs.Form.{block_text, texts_text, bundle_text, Ar
 
 use crate::bundle::{Bundle, Texts};
 use lang_base::{NoMemory, push_byte, push_u32};
-use lang_parts::{WriteOne, push_each};
+use lang_helpers::{WriteOne, push_each};
 
 /// An offer's bytes, behind their number.
 fn push_block(out: &mut Vec<u8>, bytes: &[u8]) -> Result<(), NoMemory>

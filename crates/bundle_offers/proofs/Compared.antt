@@ -2,7 +2,7 @@
 use Rattle.std.proofs.Common.{◌≡◌, ◌≢◌, ℕ, zero, suc, ◌<◌, List, [], ◌∷◌, length, take, drop, get_or, sym, ap, ◌∙◌, arith}
 use Rattle.std.proofs.lemmas.List.{get_or-map, length-map}
 use Rattle.lang_base.specs.declared.program.Named.{Named}
-use Rattle.linker.specs.Chains.{names_of}
+use Rattle.bundle_reading.specs.Chains.{names_of}
 
 -- equal lists of names have equal names at each place
 pub same_name_at : {F G : Type 0} (functions : List (Named F)) (others : List (Named G)) (i : ℕ) (f : Named F) (g : Named G)

@@ -4,11 +4,11 @@ use Rattle.lang_base.specs.declared.errors.FormError.{FormError}
 use Rattle.lang_base.specs.declared.fault.Fault.{Fault}
 use Rattle.constprop_check_rules.specs.Rules.{IsPropagated}
 use Rattle.cse_check_rules.specs.Rules.{IsEliminated}
-use Rattle.alloc_check_filled.specs.Allocated.{IsAllocated}
+use Rattle.bundle_reading.specs.Allocated.{IsAllocated}
 use Rattle.linearize_check_proof.specs.Rules.{IsLaidOut}
 use Rattle.offers.specs.declared.parts.Parts.{Parts}
 use Rattle.bundle_form.specs.declared.bundle.Texts.{Texts}
-use Rattle.chains.specs.Lent.{OfConstants, OfExpressions, OfAllocation, OfOrder}
+use Rattle.bundle_reading.specs.Lent.{OfConstants, OfExpressions, OfAllocation, OfOrder}
 use Rattle.bundle_reading.specs.Read as read
 use Rattle.bundle_reading.specs.Texts.{FirstFits, FourthFits, SecondFits, ThirdFits, first_text, fourth_text, second_text, third_text}
 use Rattle.bundle_reading.specs.declared.four.Four.{Four}

@@ -2,3 +2,10 @@ pub mod Found
 pub mod Linking
 pub mod Reasons
 pub mod Standing
+pub use Rattle.bundle_reading.specs.Texts
+pub use Rattle.bundle_reading.specs.LentOffers
+pub use Rattle.bundle_reading.specs.Lent
+pub use Rattle.bundle_reading.specs.Accepted
+pub use Rattle.bundle_reading.specs.Offered
+pub use Rattle.bundle_reading.specs.Offers
+pub use Rattle.bundle_reading.specs.Read

@@ -3,9 +3,9 @@ use Rattle.std.specs.Prelude.{◌≡◌, ℕ, List, All}
 use Rattle.lang_base.specs.declared.program.Program.{Program}
 use Rattle.rtl_language.specs.Function as rtl
 use Rattle.linear_language.specs.Function as linear
-use Rattle.chains.specs.declared.offering.Offers.{Offers}
-use Rattle.chains.specs.Accepted.{AreAccepted}
-use Rattle.chains.specs.Offered.{AllGoOn, linked_offers}
+use Rattle.bundle_reading.specs.Offers.{Offers}
+use Rattle.bundle_reading.specs.Accepted.{AreAccepted}
+use Rattle.bundle_reading.specs.Offered.{AllGoOn, linked_offers}
 use Rattle.bundle_reading.specs.Texts.{IsBundleOf}
 
 -- The bytes are the bundle of this digest and of the offers of all functions: each is accepted by its pass, each goes on from the

@@ -10,8 +10,8 @@ use Rattle.constprop_check_rules.specs.declared.fact.Fact.{Fact}
 use Rattle.constprop_check_rules.specs.Rules.{propagation}
 use Rattle.cse_check_rules.specs.declared.equation.Equation as cse
 use Rattle.cse_check_rules.specs.Rules.{elimination}
-use Rattle.alloc_check_rules.specs.declared.equation.Equation as alloc
-use Rattle.alloc_check_verdict.specs.Right as allocation
+use Rattle.bundle_reading.specs.AllocCheckRulesEquation as alloc
+use Rattle.bundle_reading.specs.Right as allocation
 use Rattle.linearize_check.specs.Faults as order
 
 -- what is told is what is wrong with the three, and nothing is told of what is accepted alone

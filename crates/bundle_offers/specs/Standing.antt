@@ -6,9 +6,9 @@ use Rattle.lang_base.specs.declared.program.Named.{Named}
 use Rattle.rtl_language.specs.Function.{FunctionData}
 use Rattle.constprop_check_rules.specs.Rules.{IsPropagated}
 use Rattle.cse_check_rules.specs.Rules.{IsEliminated}
-use Rattle.alloc_check_filled.specs.Allocated.{IsAllocated}
+use Rattle.bundle_reading.specs.Allocated.{IsAllocated}
 use Rattle.linearize_check_proof.specs.Rules.{IsLaidOut}
-use Rattle.chains.specs.declared.offering.Offers.{Offers}
+use Rattle.bundle_reading.specs.Offers.{Offers}
 use Rattle.offers.specs.declared.parts.Parts.{Parts}
 use Rattle.bundle_reading.specs.declared.four.Four.{Four}
 use Rattle.bundle_offers.specs.declared.fault.PassNumber.{PassNumber}

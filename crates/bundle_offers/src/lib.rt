@@ -8,6 +8,7 @@ mod judging;
 mod reading;
 mod reasons;
 
+pub use bundle_reading::{Alloc, texts_of, written};
 pub use fault::{OfferFault, PassNumber};
 pub use judged_bundle::JudgedBundle;
 pub use judging::{first_fault, judge_all, stands};

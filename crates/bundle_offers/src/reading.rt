@@ -11,18 +11,16 @@ use crate::fault::{OfferFault, PassNumber};
 use crate::judged_bundle::JudgedBundle;
 use crate::judging::{accepted, chained, in_order};
 use crate::reasons::{PassReasons, Reasons};
-use bundle_form::read;
-use alloc_check::Alloc;
-use bundle_form::{Bundle, Texts};
-use bundle_reading::{Four, four_of, gathered, places_for, read_one};
+use bundle_form::{Bundle, Texts, read};
+use bundle_reading::{Alloc, Four, four_of, gathered, places_for, read_one};
 use constprop_check::ConstProp;
 use cse_check::Cse;
 use lang_base::{FormError, Pass};
+use lang_helpers::grow_arena;
 use linearize_check::Linearize;
 use offers::PartsOf;
 use std::alloc::Global;
 use std::thread::{Threads, for_each_mut, join};
-use thread_memory::make_room;
 
 /// What is found of a text: the parts that it spells, and whether their pass accepts them. Where it spells none, nothing is answered.
 type Found<P> = (Result<PartsOf<P>, FormError>, Result<(), OfferFault>);
@@ -41,7 +39,7 @@ fn found_of<P: Pass, S: Reasons<P>>(alloc: Global, at: PassNumber, text: &[u8]) 
     ensures text { IsPartsText P.In.Language P.Out.Language P.Pass text.now result.0 }
     ensures told { IsAnswered at P.accepts S.tells result }
 {
-    make_room(alloc);
+    grow_arena(alloc);
     match read_one::<P>(alloc, text) {
         Ok(parts) => {
             let told = accepted::<P, S>(alloc, at, &parts);

@@ -3,7 +3,7 @@
 ghost use Rattle.lang_base.specs.declared.fault.Fault.{Fault};
 ghost use Rattle.bundle_offers.specs.Reasons.{IsReason};
 
-use alloc_check::Alloc;
+use bundle_reading::Alloc;
 use constprop_check::ConstProp;
 use cse_check::Cse;
 use lang_base::{Fault, Language, NoMemory, Pass};
@@ -67,9 +67,9 @@ impl Reasons<Alloc> for PassReasons {
         alloc: Global,
         input: &rtl_language::Function,
         output: &ltl::Function,
-        certificate: &alloc_check_verdict::EquationLists,
+        certificate: &bundle_reading::EquationLists,
     ) -> Result<Option<Fault>, NoMemory> {
-        alloc_check_verdict::why(alloc, input, output, certificate)
+        bundle_reading::why(alloc, input, output, certificate)
     }
 }
 

@@ -7,11 +7,11 @@ use Rattle.offers.specs.Text.{PartsFit}
 use Rattle.rtl_language.specs.Function as rtl
 use Rattle.ltl.specs.Function as ltl
 use Rattle.linear_language.specs.Function as linear
-use Rattle.rtl_passes_facts.specs.Certificates as facts
+use Rattle.constprop_check.specs.Certificates as facts
 use Rattle.constprop_check_rules.specs.Rules.{propagation}
-use Rattle.cse_check_rules.specs.Rules.{elimination}
-use Rattle.alloc_check_laws.specs.Text as allocation
-use Rattle.linearize_check.specs.OrderForm as order
+use Rattle.chains.specs.Rules.{elimination}
+use Rattle.chains.specs.Text as allocation
+use Rattle.chains.specs.OrderForm as order
 use Rattle.chains.specs.declared.offering.Offers.{Offers}
 use Rattle.bundle_form.proofs.Forms.{bundle_form}
 use Rattle.bundle_reading.specs.Texts.{HasOneBundle, OffersFit, bundle_with, first_text, fourth_text, second_text, texts_of, third_text}

@@ -1,3 +1,11 @@
 pub mod LentOffers
 pub mod Read
 pub mod Texts
+pub use Rattle.chains.specs.Accepted
+pub use Rattle.chains.specs.Chains
+pub use Rattle.chains.specs.Lent
+pub use Rattle.chains.specs.Offered
+pub use Rattle.chains.specs.declared.offering.Offers
+pub use Rattle.chains.specs.Right
+pub use Rattle.chains.specs.Allocated
+pub use Rattle.chains.specs.AllocCheckRulesEquation

@@ -8,14 +8,14 @@ use Rattle.ltl.specs.Function as ltl
 use Rattle.ltl.specs.Spelling as ltl_spelling
 use Rattle.linear_language.specs.Function as linear
 use Rattle.linear_language.specs.Spelling as linear_spelling
-use Rattle.rtl_passes_facts.specs.Certificates as facts
-use Rattle.rtl_passes_marks.specs.RowForm.{rows_text}
+use Rattle.constprop_check.specs.Certificates as facts
+use Rattle.constprop_check.specs.RowForm.{rows_text}
 use Rattle.constprop_check_rules.specs.Rules.{propagation}
 use Rattle.constprop_check.specs.FactForm.{fact_text}
-use Rattle.cse_check_rules.specs.Rules.{elimination}
-use Rattle.cse_check_rules.specs.Order.{equation_text}
-use Rattle.alloc_check_laws.specs.Text as allocation
-use Rattle.linearize_check.specs.OrderForm as order
+use Rattle.chains.specs.Rules.{elimination}
+use Rattle.chains.specs.Order.{equation_text}
+use Rattle.chains.specs.Text as allocation
+use Rattle.chains.specs.OrderForm as order
 use Rattle.chains.specs.declared.offering.Offers.{Offers}
 use Rattle.chains.specs.Lent.{OfConstants, OfExpressions, OfAllocation, OfOrder}
 use Rattle.bundle_form.specs.declared.bundle.Texts.{Texts}

@@ -1,7 +1,5 @@
-use alloc_check::Alloc;
+use chains::{Alloc, Cse, Linearize};
 use constprop_check::ConstProp;
-use cse_check::Cse;
-use linearize_check::Linearize;
 use offers::PartsOf;
 
 /// The parts of four offers of a function, one for each pass, whether their passes accept them or not.

@@ -2,10 +2,8 @@
 
 ghost use Rattle.bundle_reading.specs.Texts.{HasOneBundle};
 
-use alloc_check::Alloc;
+use chains::{Alloc, Cse, Linearize};
 use constprop_check::ConstProp;
-use cse_check::Cse;
-use linearize_check::Linearize;
 use offers::one_text;
 
 /// No two bundles share their bytes: neither the digest is another, nor any offer.

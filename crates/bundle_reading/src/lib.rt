@@ -9,6 +9,7 @@ mod laws;
 mod reading;
 mod writing;
 
+pub use chains::{Alloc, EquationLists, why};
 pub use four::Four;
 pub use gathering::{gathered, places_for};
 pub use knowing::known_all;

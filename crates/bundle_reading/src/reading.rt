@@ -4,11 +4,9 @@ ghost use Rattle.std.specs.Prelude.{◌≡◌};
 ghost use Rattle.bundle_reading.specs.Read.{IsPartsText, both_of, four_found};
 
 use crate::four::Four;
-use alloc_check::Alloc;
+use chains::{Alloc, Cse, Linearize};
 use constprop_check::ConstProp;
-use cse_check::Cse;
 use lang_base::{FormError, Pass};
-use linearize_check::Linearize;
 use offers::{Offer, PartsOf};
 use std::alloc::Global;
 

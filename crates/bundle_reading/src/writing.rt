@@ -9,13 +9,10 @@ ghost use Rattle.bundle_reading.specs.LentOffers.{lent_offers};
 ghost use Rattle.bundle_reading.specs.Texts.{texts_of, OffersFit};
 
 use bundle_form::{Bundle, Texts, write};
-use alloc_check::Alloc;
-use linker::Chain;
+use chains::{Alloc, Chain, Cse, Linearize};
 use constprop_check::ConstProp;
-use cse_check::Cse;
 use lang_base::{NoMemory, Pass, Row};
-use lang_parts::are_bytes;
-use linearize_check::Linearize;
+use lang_helpers::are_bytes;
 use offers::Offer;
 use std::alloc::Global;
 

@@ -1,5 +1,4 @@
-use c_checker_bodies::Here;
-use c_checker_terms::Functions;
+use c_checker_declarations::{Functions, Here};
 use c_program::GlobalVariable;
 
 /// What is known of a text behind some of its declarations: its names, its functions' signatures and bodies,

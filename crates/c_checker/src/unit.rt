@@ -11,10 +11,9 @@ ghost use Rattle.c_checker.specs.Reached.{file_of, faults_in, globals_of, functi
 
 use crate::declaration::take;
 use crate::progress::Progress;
-use c_checker_bodies::Here;
+use c_checker_declarations::{Functions, Here};
 use c_checker_rules::CheckError;
 use c_checker_scopes::Scopes;
-use c_checker_terms::Functions;
 use c_program::Function;
 use c_syntax::Declaration;
 use std::alloc::Global;

@@ -14,7 +14,7 @@ use c_checker_scopes::Scopes;
 use c_checker_terms::{Typed, array, change_operator, changed, check_expression, variable};
 use c_program::{Action, Value};
 use c_syntax::{AssignOperator, Change, Expression, Identifier, Lvalue, Set};
-use lang_parts::{beside, ok};
+use lang_helpers::{beside, ok};
 use std::alloc::Global;
 
 /// A name is changed.

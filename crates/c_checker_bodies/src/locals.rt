@@ -8,7 +8,7 @@ use crate::here::Here;
 use c_checker_rules::{CheckError, Meaning};
 use c_checker_terms::{is_new, is_short};
 use c_syntax::{Identifier, IntegerType};
-use lang_parts::ok;
+use lang_helpers::ok;
 
 /// The most locals of a function, parameters among them.
 const MOST_LOCALS: usize = 256;

@@ -17,7 +17,7 @@ use c_checker_scopes::Scopes;
 use c_program::{Action, Term};
 use c_syntax::{Expression, ForStart, Set};
 use lang_base::NoMemory;
-use lang_parts::{beside, boxes, ok};
+use lang_helpers::{beside, boxes, ok};
 use std::alloc::Global;
 
 /// What stands in a `for` before its body: how it begins, its condition, and what is done behind each turn.

@@ -24,7 +24,7 @@ use c_checker_terms::{
 use c_program::{Action, Target, Term, Value};
 use c_syntax::{Call, Expression, ForStart, Identifier, IntegerType, Local, ReturnType, Set};
 use lang_base::NoMemory;
-use lang_parts::{beside, ok, pair};
+use lang_helpers::{beside, ok, pair};
 use std::alloc::Global;
 
 /// One action and then another.

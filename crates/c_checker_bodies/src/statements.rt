@@ -22,7 +22,7 @@ use c_checker_rules::{CheckError, Context};
 use c_checker_terms::{Functions, check_expression};
 use c_program::Action;
 use c_syntax::{Expression, ForHead, ForStart, Set, Statement};
-use lang_parts::{beside, ok};
+use lang_helpers::{beside, ok};
 use std::alloc::Global;
 
 /// In a block in this context.

@@ -10,6 +10,8 @@ mod names;
 mod parameters;
 mod signatures;
 
+pub use c_checker_bodies::Here;
+pub use c_checker_terms::Functions;
 pub use declaring::declare_function;
 pub use functions::{check_function, check_prototype, function_with};
 pub use global::check_global;

@@ -1,7 +1,7 @@
 -- The operator of a compound assignment, and what it does to a cell.
 use Rattle.std.proofs.Common.{◌≡◌, ℕ, Option, Some, None, refl, sym, ap, ◌∙◌}
 use Rattle.std.specs.Prelude.{option_and_then}
-use Rattle.ints.specs.declared.operators.Op.{Op}
+use Rattle.c_program.specs.Op.{Op}
 use Rattle.c_syntax.specs.declared.constant.IntegerType.{IntegerType}
 use Rattle.c_syntax.specs.declared.expression.AssignOperator.{AssignOperator}
 use Rattle.c_syntax.specs.declared.expression.AssignOperator.TheVariants as A

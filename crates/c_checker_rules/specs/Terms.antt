@@ -4,8 +4,8 @@
 use Rattle.std.specs.Prelude.{ℕ, Option, Some, None}
 use Rattle.c_syntax.specs.declared.constant.IntegerType.{IntegerType}
 use Rattle.c_syntax.specs.declared.constant.IntegerType.TheVariants.{Int, Unsigned}
-use Rattle.ints.specs.declared.operators.Op.{Op}
-use Rattle.ints.specs.declared.operators.Op.TheVariants as O
+use Rattle.c_program.specs.Op.{Op}
+use Rattle.c_program.specs.Op.TheVariants as O
 use Rattle.c_syntax.specs.declared.expression.UnaryOperator.{UnaryOperator}
 use Rattle.c_syntax.specs.declared.expression.UnaryOperator.TheVariants as U
 use Rattle.c_syntax.specs.declared.expression.BinaryOperator.{BinaryOperator}

@@ -1,7 +1,7 @@
 ghost use Rattle.std.specs.Prelude.{◌≡◌};
 ghost use Rattle.c_checker_rules.specs.Numbers.{number_of_check_error, offset_of_check_error};
 
-use lang_base::NoMemory;
+use c_checker_scopes::NoMemory;
 use std::alloc::{AllocError, AllocFailed};
 use thiserror::Error;
 

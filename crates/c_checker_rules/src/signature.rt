@@ -1,5 +1,5 @@
+use c_checker_scopes::Row;
 use c_syntax::{IntegerType, ReturnType};
-use lang_base::Row;
 
 /// The type of a function (C99 6.7.5.3).
 #[derive(PartialEq, Eq, Drop)]

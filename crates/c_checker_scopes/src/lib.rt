@@ -8,4 +8,5 @@ mod scopes;
 mod symbols;
 
 pub use binding::Binding;
+pub use lang_base::{NoMemory, Row};
 pub use scopes::Scopes;

@@ -18,7 +18,7 @@ use c_checker_scopes::Scopes;
 use c_program::{Called, Term, Value};
 use c_syntax::{Call, Expression, Identifier, ReturnType};
 use lang_base::Row;
-use lang_parts::ok;
+use lang_helpers::ok;
 use std::alloc::Global;
 
 /// Whether a name is `putchar` (C99 7.19.7.9).

@@ -9,7 +9,7 @@ use c_checker_rules::{CheckError, Meaning};
 use c_checker_scopes::Scopes;
 use c_program::Term;
 use c_syntax::{BinaryOperator, Identifier, IntegerType, UnaryOperator};
-use lang_parts::{both, ok};
+use lang_helpers::{both, ok};
 use std::alloc::Global;
 
 /// A cell of an array. A fault of the name comes before one of the index.

@@ -12,7 +12,7 @@ use c_program::Term;
 use c_syntax::{BinaryOperator, IntegerType, UnaryOperator};
 use ints::Op;
 use lang_base::NoMemory;
-use lang_parts::{beside, boxes, ok};
+use lang_helpers::{beside, boxes, ok};
 use std::alloc::Global;
 
 /// A term, and the type of the expression that it stands for.

@@ -4,13 +4,13 @@ use Rattle.std.specs.Prelude.{option_map}
 use Rattle.std.proofs.lemmas.Bool.{eqb-true, and_parts}
 use Rattle.c_syntax.specs.declared.constant.IntegerType.TheVariants.{Int}
 use Rattle.c_syntax.specs.declared.token.TokenKind.TheVariants as kinds
-use Rattle.c_lexer_parts.specs.Bytes.{is_word_byte}
-use Rattle.c_lexer_parts.specs.Characters.{is_plain, escape_of, IsCharacter}
-use Rattle.c_lexer_parts.specs.Faults.{IsBadCharacter}
-use Rattle.c_lexer_parts.specs.Lexemes.{IsLexeme}
-use Rattle.c_lexer_parts.specs.Lookups.{character_of}
-use Rattle.c_lexer_parts.specs.Parts.{BeginsComment, IsToken}
-use Rattle.c_lexer_parts.proofs.Starts.{none_some, found, found_is, byte_of_front, length_of_front, front_three, front_four, front_taken, first_byte, word_first, punctuator_some, punctuator_quote, comment_first, not_both, longest_front}
+use Rattle.c_lexer_lexemes.specs.Bytes.{is_word_byte}
+use Rattle.c_lexer_lexemes.specs.Characters.{is_plain, escape_of, IsCharacter}
+use Rattle.c_lexer_lexemes.specs.Faults.{IsBadCharacter}
+use Rattle.c_lexer_lexemes.specs.Lexemes.{IsLexeme}
+use Rattle.c_lexer_lexemes.specs.Lookups.{character_of}
+use Rattle.c_lexer_lexemes.specs.Parts.{BeginsComment, IsToken}
+use Rattle.c_lexer_lexemes.proofs.Starts.{none_some, found, found_is, byte_of_front, length_of_front, front_three, front_four, front_taken, first_byte, word_first, punctuator_some, punctuator_quote, comment_first, not_both, longest_front}
 
 -- what three bytes behind a quote are
 data Shape (a b c v len : ℕ) : Type 0 where

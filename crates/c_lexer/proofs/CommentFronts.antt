@@ -3,11 +3,11 @@ use Rattle.std.proofs.Common.{◌≡◌, ◌≢◌, ℕ, true, suc, ◌+◌, ◌
 use Rattle.std.proofs.lemmas.List.{drop_more, drop-drop, get_or-append-add, drop_all, take_at}
 use Rattle.std.proofs.lemmas.List.Elements.{All-from_get_or}
 use Rattle.std.proofs.str.Laws.{order}
-use Rattle.c_lexer_parts.specs.Bytes.{is_white}
+use Rattle.c_lexer_lexemes.specs.Bytes.{is_white}
 use Rattle.c_lexer.specs.Closings.{IsClose, NoClose, IsFirstClose}
-use Rattle.c_lexer_parts.specs.Faults.{IsOpenComment}
-use Rattle.c_lexer_parts.specs.Parts.{IsLineEnd, ClosesFirst, IsGap}
-use Rattle.c_lexer_parts.proofs.Starts.{first_byte, front_taken, length_of_front}
+use Rattle.c_lexer_lexemes.specs.Faults.{IsOpenComment}
+use Rattle.c_lexer_lexemes.specs.Parts.{IsLineEnd, ClosesFirst, IsGap}
+use Rattle.c_lexer_lexemes.proofs.Starts.{first_byte, front_taken, length_of_front}
 
 pub white_gap : (text : List ℕ) → 0 < length text → is_white (get_or text 0 0) ≡ true → (1 ≤ length text) × IsGap (take 1 text) (drop 1 text)
 white_gap text some is = (omega arith, IsGap.white (get_or text 0 0) is (front_taken text (get_or text 0 0 ∷ []) (drop 1 text) 1 refl (first_byte text some)))

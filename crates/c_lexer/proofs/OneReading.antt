@@ -7,13 +7,13 @@ use Rattle.c_syntax.specs.declared.token.TokenKind.{TokenKind}
 use Rattle.c_syntax.specs.declared.punctuator.Punctuator.TheVariants.{Slash}
 use Rattle.c_lexer.specs.declared.errors.LexError.{LexError}
 use Rattle.c_lexer.specs.declared.errors.LexError.TheVariants.{NoMemory, BadByte, OpenComment, LiteralRange, BadChar}
-use Rattle.c_lexer_parts.specs.Bytes.{is_white, is_word_byte}
-use Rattle.c_lexer_parts.specs.Faults.{IsBadByte, IsOpenComment, IsBadNumber, IsBadCharacter}
+use Rattle.c_lexer_lexemes.specs.Bytes.{is_white, is_word_byte}
+use Rattle.c_lexer_lexemes.specs.Faults.{IsBadByte, IsOpenComment, IsBadNumber, IsBadCharacter}
 use Rattle.c_lexer.specs.FaultsAt.{IsFaultAt}
-use Rattle.c_lexer_parts.specs.Lexemes.{IsLexeme, Spells}
-use Rattle.c_lexer_parts.specs.Parts.{IsGap, IsPart}
+use Rattle.c_lexer_lexemes.specs.Lexemes.{IsLexeme, Spells}
+use Rattle.c_lexer_lexemes.specs.Parts.{IsGap, IsPart}
 use Rattle.c_lexer.specs.Texts.{Part, bytes_of, AreParts, tokens_of, ReadsTo, HasTokens, HasFault}
-use Rattle.c_lexer_parts.proofs.Starts.{byte_of_front, length_of_front, word_first, punctuator_some, punctuator_quote, not_both}
+use Rattle.c_lexer_lexemes.proofs.Starts.{byte_of_front, length_of_front, word_first, punctuator_some, punctuator_quote, not_both}
 use Rattle.c_lexer.proofs.Unique.{spelled_lexeme, spells_nothing, same_longest, lexeme_not_white, same_part, part_some}
 
 -- no part begins here

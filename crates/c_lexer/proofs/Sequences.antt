@@ -5,7 +5,7 @@ use Rattle.c_syntax.specs.declared.token.Token.{Token}
 use Rattle.c_syntax.specs.declared.token.TokenKind.{TokenKind}
 use Rattle.c_lexer.specs.declared.found.Found.{Found}
 use Rattle.c_lexer.specs.Found.{IsFound}
-use Rattle.c_lexer_parts.specs.Parts.{IsPart}
+use Rattle.c_lexer_lexemes.specs.Parts.{IsPart}
 use Rattle.c_lexer.specs.Texts.{Part, bytes_of, AreParts, token_of, tokens_of, ReadsTo, HasTokens}
 use Rattle.c_lexer.proofs.Unique.{part_some}
 

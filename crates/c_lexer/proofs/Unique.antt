@@ -13,17 +13,17 @@ use Rattle.c_syntax.specs.declared.punctuator.Punctuator.{Punctuator}
 use Rattle.c_syntax.specs.declared.punctuator.Punctuator.TheVariants.{Slash}
 use Rattle.c_syntax.specs.declared.token.TokenKind.{TokenKind}
 use Rattle.c_syntax.specs.declared.token.TokenKind.TheVariants as kinds
-use Rattle.c_lexer_parts.specs.Bytes.{is_white, is_word_byte, begins_with_digit}
-use Rattle.c_lexer_parts.specs.Characters.{IsCharacter}
-use Rattle.c_lexer_parts.specs.Keywords.{keyword_text}
-use Rattle.c_lexer_parts.specs.Lexemes.{IsWord, IsLexeme, IsLongest, IsNumber, Spells}
-use Rattle.c_lexer_parts.specs.Lookups.{keyword_of, character_of, longest_of}
-use Rattle.c_lexer_parts.specs.Numbers.{constant_of}
-use Rattle.c_lexer_parts.specs.Parts.{IsLineEnd, IsGap, IsToken, IsPart}
-use Rattle.c_lexer_parts.specs.Punctuators.{punctuator_text}
+use Rattle.c_lexer_lexemes.specs.Bytes.{is_white, is_word_byte, begins_with_digit}
+use Rattle.c_lexer_lexemes.specs.Characters.{IsCharacter}
+use Rattle.c_lexer_lexemes.specs.Keywords.{keyword_text}
+use Rattle.c_lexer_lexemes.specs.Lexemes.{IsWord, IsLexeme, IsLongest, IsNumber, Spells}
+use Rattle.c_lexer_lexemes.specs.Lookups.{keyword_of, character_of, longest_of}
+use Rattle.c_lexer_lexemes.specs.Numbers.{constant_of}
+use Rattle.c_lexer_lexemes.specs.Parts.{IsLineEnd, IsGap, IsToken, IsPart}
+use Rattle.c_lexer_lexemes.specs.Punctuators.{punctuator_text}
 use Rattle.c_lexer.proofs.CharacterFronts.{plain_found, escape_found}
-use Rattle.c_lexer_parts.proofs.KeywordTexts.{keyword_is, keyword_found, keyword_bytes, keyword_some, keyword_no_digit}
-use Rattle.c_lexer_parts.proofs.Starts.{some_is, none_some, byte_of_front, length_of_front, word_first, punctuator_white, character_first, lexeme_some, not_both}
+use Rattle.c_lexer_lexemes.proofs.KeywordTexts.{keyword_is, keyword_found, keyword_bytes, keyword_some, keyword_no_digit}
+use Rattle.c_lexer_lexemes.proofs.Starts.{some_is, none_some, byte_of_front, length_of_front, word_first, punctuator_white, character_first, lexeme_some, not_both}
 
 keyword_word : (k : Keyword) → IsWord (keyword_text k)
 keyword_word k = record { some = ltb-true 0 (length (keyword_text k)) (keyword_some k); all = AllPass-from_list_all is_word_byte (keyword_text k) (keyword_bytes k) }

@@ -2,7 +2,7 @@
 use Rattle.std.specs.Prelude.{◌≡◌, ℕ, List}
 use Rattle.c_lexer.specs.declared.errors.LexError.{LexError}
 use Rattle.c_lexer.specs.declared.errors.LexError.TheVariants.{NoMemory, BadByte, OpenComment, LiteralRange, BadChar}
-use Rattle.c_lexer_parts.specs.Faults.{IsBadByte, IsOpenComment, IsBadNumber, IsBadCharacter}
+use Rattle.c_lexer_lexemes.specs.Faults.{IsBadByte, IsOpenComment, IsBadNumber, IsBadCharacter}
 
 -- At this offset the text, from there on, is refused so.
 abbrev pub IsFaultAt : ℕ → List ℕ → LexError → Type 0

@@ -4,7 +4,7 @@ use Rattle.c_lexer.specs.declared.errors.LexError.{LexError}
 use Rattle.c_lexer.specs.declared.errors.LexError.TheVariants.{NoMemory}
 use Rattle.c_lexer.specs.declared.found.Found.{Found}
 use Rattle.c_lexer.specs.FaultsAt.{IsFaultAt}
-use Rattle.c_lexer_parts.specs.Parts.{IsPart}
+use Rattle.c_lexer_lexemes.specs.Parts.{IsPart}
 
 -- What was found at the front of a text, at an offset of the whole one: a part of it, or a fault.
 abbrev pub IsFound : ℕ → List ℕ → Result Found LexError → Type 0

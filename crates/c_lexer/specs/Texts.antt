@@ -4,7 +4,7 @@ use Rattle.c_syntax.specs.declared.token.Token.{Token}
 use Rattle.c_syntax.specs.declared.token.TokenKind.{TokenKind}
 use Rattle.c_lexer.specs.declared.errors.LexError.{LexError}
 use Rattle.c_lexer.specs.FaultsAt.{IsFaultAt}
-use Rattle.c_lexer_parts.specs.Parts.{IsPart}
+use Rattle.c_lexer_lexemes.specs.Parts.{IsPart}
 
 -- a part: its bytes, and the token that it is, or none
 pub record Part : Type 0 where

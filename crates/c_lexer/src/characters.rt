@@ -5,7 +5,7 @@ ghost use Rattle.c_lexer.specs.Found.{IsFound};
 
 use crate::errors::LexError;
 use crate::found::Found;
-use c_lexer_parts::{byte_at, character_value};
+use c_lexer_lexemes::{byte_at, character_value};
 use c_syntax::{Constant, IntegerType, TokenKind};
 
 /// The character constant at the front of a text that begins with a quote.

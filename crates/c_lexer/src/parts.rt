@@ -9,7 +9,7 @@ use crate::errors::LexError;
 use crate::found::Found;
 use crate::punctuators::punctuator;
 use crate::words::word;
-use c_lexer_parts::{byte_at, is_white, is_word_byte};
+use c_lexer_lexemes::{byte_at, is_white, is_word_byte};
 use std::alloc::Global;
 
 /// The part at the front of a text, which stands at an offset of the whole.

@@ -1,13 +1,13 @@
 //! The punctuator at the front of a text.
 
 ghost use Rattle.std.specs.Prelude.{◌≡◌, ◌≢◌, ◌<◌, length, slice_index, IsFalse};
-ghost use Rattle.c_lexer_parts.specs.Bytes.{is_white, is_word_byte};
+ghost use Rattle.c_lexer_lexemes.specs.Bytes.{is_white, is_word_byte};
 ghost use Rattle.c_lexer.specs.Found.{IsFound};
-ghost use Rattle.c_lexer_parts.specs.Parts.{BeginsComment};
+ghost use Rattle.c_lexer_lexemes.specs.Parts.{BeginsComment};
 
 use crate::errors::LexError;
 use crate::found::Found;
-use c_lexer_parts::{byte_at, longest_punctuator};
+use c_lexer_lexemes::{byte_at, longest_punctuator};
 use c_syntax::TokenKind;
 
 /// The punctuator at the front of a text that begins neither with white space, a word, a quote nor a

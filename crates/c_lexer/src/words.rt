@@ -1,14 +1,14 @@
 //! Words: names, keywords and numbers.
 
 ghost use Rattle.std.specs.Prelude.{◌≡◌, ◌<◌, ◌≤◌, ℕ, length, take, drop, slice_index, IsTrue, IsFalse, IfOk, MatchOption};
-ghost use Rattle.c_lexer_parts.specs.Bytes.{is_word_byte};
-ghost use Rattle.c_lexer_parts.specs.Faults.{IsRefused};
+ghost use Rattle.c_lexer_lexemes.specs.Bytes.{is_word_byte};
+ghost use Rattle.c_lexer_lexemes.specs.Faults.{IsRefused};
 ghost use Rattle.c_lexer.specs.Found.{IsFound};
-ghost use Rattle.c_lexer_parts.specs.Lexemes.{IsWord, Spells};
+ghost use Rattle.c_lexer_lexemes.specs.Lexemes.{IsWord, Spells};
 
 use crate::errors::LexError;
 use crate::found::Found;
-use c_lexer_parts::{constant, is_word_byte, keyword};
+use c_lexer_lexemes::{constant, is_word_byte, keyword};
 use c_syntax::TokenKind;
 use lang_base::{NoMemory, Row};
 use std::alloc::Global;

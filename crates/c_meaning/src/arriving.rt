@@ -7,8 +7,7 @@ ghost use Rattle.c_meaning_machine.specs.Costs.{later_cost};
 ghost use Rattle.c_meaning_machine.specs.Steps.{next_cost};
 
 use crate::leaving::returns;
-use c_meaning_machine::Machine;
-use c_meaning_machine::Next;
+use c_meaning_machine::{Machine, Next};
 use c_program::Target;
 use lang_base::Shown;
 

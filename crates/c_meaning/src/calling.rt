@@ -8,8 +8,7 @@ ghost use Rattle.c_meaning.specs.Reaching.{Does, CostsAtMost};
 ghost use Rattle.c_meaning_machine.specs.Arguments.{ArePutBehind, AreWorth};
 
 use crate::leaving::hand_back_term;
-use c_meaning_machine::{Entered, Left, Next, Scope, Waiting, enter, evaluate, same};
-use c_meaning_machine::Machine;
+use c_meaning_machine::{Entered, Left, Machine, Next, Scope, Waiting, enter, evaluate, same};
 use c_program::{Action, Called, Function, Target, Term};
 use lang_base::{NoMemory, Shown};
 

@@ -10,8 +10,7 @@ ghost use Rattle.c_meaning_machine.specs.Steps.{next_cost};
 
 use crate::arriving::settle;
 use crate::looping::{after_body, turn};
-use c_meaning_machine::{Left, Next, Waiting, evaluate, same};
-use c_meaning_machine::Machine;
+use c_meaning_machine::{Left, Machine, Next, Waiting, evaluate, same};
 use c_program::{Ending, Target, Term};
 use lang_base::{NoMemory, Shown};
 

@@ -10,8 +10,7 @@ ghost use Rattle.c_meaning_machine.specs.AtOnce.{holds};
 ghost use Rattle.c_meaning_machine.specs.Costs.{Costs, cost, cost_all};
 ghost use Rattle.c_meaning_machine.specs.Resume.{here};
 
-use c_meaning_machine::{Cycle, Front, Left, Next, advance, evaluate};
-use c_meaning_machine::Machine;
+use c_meaning_machine::{Cycle, Front, Left, Machine, Next, advance, evaluate};
 use c_program::{Action, Term};
 use lang_base::{NoMemory, Shown};
 use std::slice;

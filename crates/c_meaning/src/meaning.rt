@@ -1,11 +1,11 @@
-ghost use Rattle.lang_parts.specs.Written.{Wrote};
+ghost use Rattle.lang_helpers.specs.Written.{Wrote};
 ghost use Rattle.c_program.specs.Meaning.{crun};
 ghost use Rattle.c_checker_rules.specs.Checked.{program_tree};
 
 use crate::run_program;
 use c_checker_rules::CProgram;
 use lang_base::Shown;
-use lang_parts::RunError;
+use lang_helpers::RunError;
 use std::alloc::Global;
 use std::io::Write;
 

@@ -1,6 +1,6 @@
 //! Whole runs.
 
-ghost use Rattle.lang_parts.specs.Written.{Wrote};
+ghost use Rattle.lang_helpers.specs.Written.{Wrote};
 ghost use Rattle.c_program.specs.Meaning.{crun};
 ghost use Rattle.c_meaning.specs.Parts.{program_of};
 ghost use Rattle.c_meaning.specs.Reaching.{still_shown};
@@ -9,11 +9,10 @@ use crate::acting::step;
 use crate::arriving::arrive;
 use crate::calling::function_at;
 use crate::starting::start;
-use c_meaning_machine::Machine;
-use c_meaning_machine::Next;
+use c_meaning_machine::{Machine, Next};
 use c_program::{Function, GlobalVariable};
 use lang_base::Shown;
-use lang_parts::{RunError, print};
+use lang_helpers::{RunError, print};
 use std::alloc::Global;
 use std::io::Write;
 

@@ -5,8 +5,7 @@ ghost use Rattle.c_program.specs.Meaning.{cells_of};
 ghost use Rattle.c_meaning.specs.Arguments.{StartsMain};
 
 use crate::calling::push_blank;
-use c_meaning_machine::{Cells, Left, Scope, Stack, Waiting};
-use c_meaning_machine::Machine;
+use c_meaning_machine::{Cells, Left, Machine, Scope, Stack, Waiting};
 use c_program::{Function, GlobalVariable, Target};
 use lang_base::NoMemory;
 use std::alloc::Global;

@@ -4,3 +4,4 @@ pub mod Values
 pub mod State
 pub mod Meaning
 pub mod Growth
+pub use Rattle.ints.specs.declared.operators.Op

@@ -1,6 +1,6 @@
 use crate::term::Term;
-use lang_base::Row;
 use ints::Op;
+use lang_base::Row;
 
 /// A call of a function with a body.
 #[derive(Drop)]

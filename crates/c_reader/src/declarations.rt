@@ -15,7 +15,7 @@ use c_reader_tokens::{
 };
 use c_syntax::{Declaration, Function, Keyword, Prototype, Punctuator, Statement, Token};
 use lang_base::Row;
-use lang_parts::{beside, ok};
+use lang_helpers::{beside, ok};
 use std::alloc::Global;
 
 /// A body is as high as the block that it is.

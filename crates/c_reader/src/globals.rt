@@ -7,13 +7,13 @@ ghost use Rattle.c_reader_productions.specs.Combining.{commas};
 ghost use Rattle.c_reader_declaration_laws.specs.Reading.{here, initial, initializer, size, beginning, global};
 
 use crate::misread::Misread;
-use c_reader_expressions::expression;
+use c_reader_statements::expression;
 use c_reader_tokens::{
     Fault, is_sign_next, misfit, read_constant, read_name, read_sign, read_type,
 };
 use c_syntax::{Constant, Global, Initial, Initializer, Punctuator, Token};
 use lang_base::Row;
-use lang_parts::{beside, ok};
+use lang_helpers::{beside, ok};
 use std::alloc::Global as Memory;
 
 /// No function and no initial expression is higher.

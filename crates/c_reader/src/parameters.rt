@@ -14,7 +14,7 @@ use c_syntax::{
     Identifier, Keyword, OpenParameter, Parameter, Prototype, Punctuator, ReturnType, Token,
 };
 use lang_base::Row;
-use lang_parts::{beside, ok};
+use lang_helpers::{beside, ok};
 use std::alloc::Global;
 
 fn read_open_name(alloc: Global, tokens: &[Token]) -> Result<(Option<Identifier>, &[Token]), Fault>

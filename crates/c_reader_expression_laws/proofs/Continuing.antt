@@ -1,7 +1,7 @@
 -- Operators and their signs, and how an expression goes on or stops.
 use Rattle.std.proofs.Common.{◌≡◌, ℕ, zero, suc, ◌≤◌, ◌<◌, Bool, true, false, cond, eqb, leb, List, [], ◌∷◌, ◌++◌, Option, Some, None, inl, inr, refl, sym, ap, ◌∙◌, arith}
 use Rattle.std.proofs.lemmas.Bool.{leb-true, leb-false, le-leb, lt-leb, ne_eqb}
-use Rattle.lang_base.proofs.Parts.{chosen as which}
+use Rattle.c_syntax.proofs.Parts.{chosen as which}
 use Rattle.c_syntax.specs.declared.punctuator.Punctuator.{Punctuator}
 use Rattle.c_syntax.specs.declared.punctuator.Punctuator.TheVariants as P
 use Rattle.c_syntax.specs.declared.token.Token.{Token}

@@ -1,7 +1,7 @@
 -- What is read is spelled at its level, is low, and does not go on.
 use Rattle.std.proofs.Common.{◌≡◌, ℕ, zero, suc, ◌≤◌, cond, leb, List, [], ◌∷◌, ◌++◌, Option, Some, None, Result, Ok, Err, inl, inr, refl, subst, arith}
 use Rattle.std.proofs.lemmas.Bool.{leb-true}
-use Rattle.lang_base.proofs.Parts.{chosen as which}
+use Rattle.c_syntax.proofs.Parts.{chosen as which}
 use Rattle.c_syntax.specs.declared.punctuator.Punctuator.TheVariants as P
 use Rattle.c_syntax.specs.declared.token.Token.{Token}
 use Rattle.c_syntax.specs.declared.token.TokenKind.{TokenKind}

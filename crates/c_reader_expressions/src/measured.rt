@@ -9,7 +9,7 @@ ghost use Rattle.c_reader_expressions.specs.Making.{IsBinary, IsChoice};
 use crate::boxing::boxes;
 use c_reader_tokens::Fault;
 use c_syntax::{BinaryOperator, Constant, Expression, Identifier, IntegerType, UnaryOperator};
-use lang_parts::beside;
+use lang_helpers::beside;
 use std::alloc::Global;
 
 /// An expression and its height.

@@ -15,7 +15,7 @@ use c_reader_tokens::{
 use c_syntax::{
     BinaryOperator, Expression, Identifier, Punctuator, Token, TokenKind, UnaryOperator,
 };
-use lang_parts::beside;
+use lang_helpers::beside;
 use std::alloc::Global;
 
 /// The level of an operand, above that of each operator.

@@ -14,7 +14,7 @@ use c_reader_expressions::expression;
 use c_reader_statement_laws::First;
 use c_reader_tokens::{Fault, is_sign_next, misfit, read_sign, read_word};
 use c_syntax::{Expression, ForHead, ForStart, Keyword, Punctuator, Set, Statement, Token};
-use lang_parts::{beside, ok};
+use lang_helpers::{beside, ok};
 use std::alloc::Global;
 
 /// How a loop begins, up to its body.

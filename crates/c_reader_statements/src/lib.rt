@@ -9,4 +9,5 @@ mod reading;
 mod sets;
 mod simple;
 
+pub use c_reader_expressions::expression;
 pub use reading::read_block;

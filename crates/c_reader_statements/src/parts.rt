@@ -14,7 +14,7 @@ use c_reader_tokens::{
 };
 use c_syntax::{Call, Expression, Identifier, Local, Punctuator, Token, Value};
 use lang_base::Row;
-use lang_parts::{beside, ok};
+use lang_helpers::{beside, ok};
 use std::alloc::Global;
 
 /// One less fuel, for the parts of something.

@@ -18,7 +18,7 @@ use crate::heads::{Head, Loop, read_head, read_whole};
 use c_reader_expressions::expression;
 use c_reader_tokens::{Fault, is_sign_next, is_word_next, read_sign, read_word};
 use c_syntax::{Expression, Keyword, Punctuator, Statement, Token};
-use lang_parts::{beside, ok};
+use lang_helpers::{beside, ok};
 use std::alloc::Global;
 
 /// A statement in a box.

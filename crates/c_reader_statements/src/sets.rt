@@ -21,7 +21,7 @@ use c_syntax::{
     AssignOperator, Change, Constant, Expression, ForStart, Identifier, IntegerType, Lvalue,
     Punctuator, Set, Token,
 };
-use lang_parts::{beside, ok};
+use lang_helpers::{beside, ok};
 use std::alloc::Global;
 
 /// An index between brackets.

@@ -14,7 +14,7 @@ use c_reader_tokens::{Fault, is_sign_next, read_placed_word, read_sign};
 use c_syntax::{
     AssignOperator, Change, Expression, Keyword, Lvalue, Punctuator, Statement, Token, Value,
 };
-use lang_parts::{beside, ok};
+use lang_helpers::{beside, ok};
 use std::alloc::Global;
 
 #[tactic(auto, unfolding(c_reader_statement_laws::specs::Reading::empty))]

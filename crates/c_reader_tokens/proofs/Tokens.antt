@@ -1,7 +1,7 @@
 -- Single tokens and types: what is read is spelled so, and what is spelled so is read.
 use Rattle.std.proofs.Common.{◌≡◌, ℕ, Bool, true, false, cond, List, [], ◌∷◌, ◌++◌, Option, Some, None, Result, Ok, inl, inr, refl, ap, ◌∙◌, subst, rules}
 use denote.Enum.Bare.{same_true}
-use Rattle.lang_base.proofs.Parts.{chosen}
+use Rattle.c_syntax.proofs.Parts.{chosen}
 use Rattle.c_syntax.specs.declared.constant.Constant.{Constant}
 use Rattle.c_syntax.specs.declared.constant.IntegerType.{IntegerType}
 use Rattle.c_syntax.specs.declared.constant.IntegerType.TheVariants.{Int, Unsigned}

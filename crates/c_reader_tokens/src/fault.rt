@@ -1,4 +1,4 @@
-use lang_base::NoMemory;
+use c_syntax::NoMemory;
 use std::alloc::{AllocError, AllocFailed};
 use thiserror::Error;
 

@@ -21,6 +21,7 @@ pub use declaration::{
 pub use expression::{AssignOperator, BinaryOperator, Expression, UnaryOperator};
 pub use identifier::Identifier;
 pub use keyword::Keyword;
+pub use lang_base::NoMemory;
 pub use punctuator::Punctuator;
 pub use statement::{Call, Change, ForHead, ForStart, Local, Lvalue, Set, Statement, Value};
 pub use token::{Name, Token, TokenKind};

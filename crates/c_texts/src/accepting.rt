@@ -4,8 +4,8 @@ ghost use Rattle.c_texts.specs.Accepted.{IsAccepted, IsProgramOf};
 ghost use Rattle.c_texts.specs.Refusals.{IsOutOfMemory, IsRefused};
 
 use crate::error::TextError;
-use c_checker_rules::CProgram;
 use c_checker::check;
+use c_checker_rules::CProgram;
 use c_lexer::lex;
 use c_reader::read;
 use std::alloc::Global;

@@ -10,7 +10,7 @@ use crate::screen::Screen;
 use cfarm_files::HostFiles;
 use cfarm_output::{ErrorLines, ErrorWriter, Paced};
 use cfarm_program::{run, tell_no_text};
-use cfarm_telling::tell_no_memory;
+use cfarm_program_status::tell_no_memory;
 use rooms_hall::{Naming, Opened};
 use std::io::{BufWriter, ErrorKind, IsTerminal};
 use std::marker::Brand;

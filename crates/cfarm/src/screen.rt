@@ -1,6 +1,6 @@
 //! Where a user sees how far a build is.
 
-use cfarm_meter::{Ignored, Meter};
+use cfarm_options::{Ignored, Meter};
 use std::io;
 use std::io::{IsTerminal, Write};
 use std::time::{Duration, Instant};

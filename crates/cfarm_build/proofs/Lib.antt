@@ -1,3 +1,7 @@
 mod Made
 mod Unbuilt
 mod Unmet
+mod Carrying
+mod Leaving
+mod Putting
+mod Refusing

@@ -5,11 +5,11 @@ use Rattle.durable_pair.specs.declared.pair.Pair as pairs
 use Rattle.rooms_hall.specs.declared.hall.Naming as naming
 use Rattle.farm_nodes_source.specs.declared.source.Source.{Source}
 use Rattle.paxos_core_world.specs.Quorum.{Sizes}
-use Rattle.cfarm_build_faults.specs.declared.error.BuildError.{BuildError}
+use Rattle.cfarm_build_folder.specs.BuildError.{BuildError}
 use Rattle.cfarm_build_linking.specs.Built.{IsBuiltBy}
-use Rattle.cfarm_build_result.specs.Node.{Node}
+use Rattle.cfarm_build_turns.specs.Node.{Node}
 use Rattle.cfarm_build_linking.specs.Refused.{IsRefusedBy}
-use Rattle.cfarm_build_result.specs.declared.built.Built.{Built}
+use Rattle.cfarm_build_turns.specs.Built.{Built}
 use Rattle.cfarm_build.specs.Built.{IsBuilt}
 use Rattle.cfarm_build_turns.specs.Nodes.{HaveMet, HaveRun, failed_of}
 use Rattle.cfarm_build.specs.Refused.{IsUnbuilt}

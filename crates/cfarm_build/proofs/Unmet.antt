@@ -6,15 +6,15 @@ use Rattle.durable_model.specs.declared.disk.Disk as disks
 use Rattle.durable_pair.specs.declared.pair.Pair as pairs
 use Rattle.acceptor_log.specs.declared.log.Log.{Log}
 use Rattle.rooms_hall.specs.declared.hall.Naming as naming
-use Rattle.farm_nodes_passes.specs.Fours.{fours_of}
-use Rattle.farm_nodes_node.specs.declared.halted.Halted.{Halted}
-use Rattle.farm_nodes_node.specs.Held.{fault_in}
-use Rattle.farm_nodes_linked.specs.Learned.{learned_by}
+use Rattle.cfarm_build_offers.specs.Fours.{fours_of}
+use Rattle.cfarm_build_turns.specs.Halted.{Halted}
+use Rattle.cfarm_build_turns.specs.Held.{fault_in}
+use Rattle.cfarm_build_turns.specs.Learned.{learned_by}
 use Rattle.paxos_core_world.specs.Quorum.{Sizes}
-use Rattle.rooms_numbered.specs.declared.seat.NumberedSeat.{NumberedSeat}
+use Rattle.cfarm_build_turns.specs.NumberedSeat.{NumberedSeat}
 use Rattle.farm_nodes_source.specs.declared.source.Source.{Source}
-use Rattle.cfarm_build_faults.specs.declared.error.BuildError.{BuildError}
-use Rattle.cfarm_build_faults.specs.declared.error.BuildError.TheVariants.{NoMemory, NoThread, Source as TextFault, Disks, Failed, Undecided, Unlinked, Names}
+use Rattle.cfarm_build_folder.specs.BuildError.{BuildError}
+use Rattle.cfarm_build_folder.specs.BuildError.TheVariants.{NoMemory, NoThread, Source as TextFault, Disks, Failed, Undecided, Unlinked, Names}
 use Rattle.cfarm_build_turns.specs.Nodes.{HaveRun, Meets}
 use Rattle.cfarm_build_turns.specs.Unmet.{IsUnmet}
 use Rattle.cfarm_build_turns.proofs.Counting.{missed_seen}

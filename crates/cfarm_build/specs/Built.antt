@@ -6,7 +6,7 @@ use Rattle.rooms_hall.specs.declared.hall.Naming as naming
 use Rattle.farm_nodes_source.specs.declared.source.Source.{Source}
 use Rattle.paxos_core_world.specs.Quorum.{Sizes}
 use Rattle.cfarm_build_linking.specs.Built.{IsBuiltBy}
-pub use Rattle.cfarm_build_result.specs.declared.built.Built.{Built}
+pub use Rattle.cfarm_build_turns.specs.Built.{Built}
 use Rattle.cfarm_build_turns.specs.Nodes.{AfterMeeting}
 
 -- The source is compiled by nodes over these disks, with quorums of these sizes, none of which failed. Each two neighbours met, and all

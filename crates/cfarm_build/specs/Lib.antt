@@ -1,2 +1,11 @@
 pub mod Built
 pub mod Refused
+pub mod Carried
+pub mod Compiled
+pub mod Done
+pub mod Farmed
+pub mod Left
+pub mod Put
+pub use Rattle.cfarm_build_folder.specs.Answers
+pub use Rattle.cfarm_build_folder.specs.Changed
+pub use Rattle.cfarm_build_folder.specs.declared.error.BuildingError

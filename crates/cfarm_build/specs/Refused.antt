@@ -5,11 +5,11 @@ use Rattle.durable_pair.specs.declared.pair.Pair as pairs
 use Rattle.rooms_hall.specs.declared.hall.Naming as naming
 use Rattle.farm_nodes_source.specs.declared.source.Source.{Source}
 use Rattle.paxos_core_world.specs.Quorum.{Sizes}
-use Rattle.farm_nodes_offers.specs.declared.halt.Fault.{Fault}
-use Rattle.farm_nodes.specs.Refused.{AreRefusedOver}
-use Rattle.cfarm_build_faults.specs.declared.error.BuildError.{BuildError}
-use Rattle.cfarm_build_faults.specs.declared.error.BuildError.TheVariants.{NoMemory, NoThread, Source as TextFault, Disks, Failed, Undecided, Unlinked, Names}
-use Rattle.cfarm_build_result.specs.Node.{Node}
+use Rattle.cfarm_build_turns.specs.Fault.{Fault}
+use Rattle.cfarm_build_folder.specs.Refused.{AreRefusedOver}
+use Rattle.cfarm_build_folder.specs.BuildError.{BuildError}
+use Rattle.cfarm_build_folder.specs.BuildError.TheVariants.{NoMemory, NoThread, Source as TextFault, Disks, Failed, Undecided, Unlinked, Names}
+use Rattle.cfarm_build_turns.specs.Node.{Node}
 use Rattle.cfarm_build_linking.specs.Refused.{IsRefusedBy}
 use Rattle.cfarm_build_turns.specs.Nodes.{AfterMeeting, AreMissed, HaveRun, failed_of}
 

@@ -1,7 +1,16 @@
-//! The command `build`: from a C text made ready, over disks with journals, to the bytes of a linked program and a report. The farm
-//! opens, its nodes take their turns on threads, round after round, neighbours meet, and node 0 links what it has learned.
+//! The command `build`: from the words of the command line and a C text to the files of a folder. The text is made ready, the journals in
+//! the folder are opened as disks, the farm opens, its nodes take their turns, round after round, neighbours meet, and node 0 links what it
+//! has learned; the program's bytes are put, and a report is written.
 #![tactic(auto)]
 
+mod asking;
 mod building;
+mod compiling;
+mod farm;
+mod text_building;
 
+pub use asking::quorums_of;
 pub use building::{build, build_bundled};
+pub use cfarm_build_folder::{BuildError, of_build};
+pub use farm::Farm;
+pub use text_building::build_text;

@@ -1,3 +1,12 @@
 pub mod Lines
 pub mod Names
 pub mod Statuses
+pub use Rattle.farm_nodes.specs.Numbers
+pub use Rattle.farm_nodes.specs.Prepared
+pub use Rattle.farm_nodes.specs.Refused
+pub use Rattle.farm_nodes.specs.Back
+pub use Rattle.farm_nodes.specs.Opened
+pub use Rattle.farm_nodes.specs.Words
+pub use Rattle.farm_nodes.specs.CameBack
+pub use Rattle.farm_nodes.specs.Nodes
+pub use Rattle.farm_nodes_turn_offer.specs.Halted

@@ -3,14 +3,14 @@ use Rattle.std.specs.Prelude.{ℕ, zero, suc, List, ◌++◌, codes}
 use Rattle.std.specs.Fmt.{decimal}
 use Rattle.std.specs.String.{string_bytes}
 use Rattle.acceptor_log_form.specs.Refusals as journals
-use Rattle.farm_nodes_source.specs.Told.{source_line}
-use Rattle.farm_nodes_offers.specs.declared.halt.Fault.{Fault}
-use Rattle.farm_nodes_offers.specs.Halted as halts
-use Rattle.farm_nodes_function_rooms.specs.declared.fault.RoomFault.{RoomFault}
-use Rattle.farm_nodes_function_rooms.specs.declared.fault.RoomFault.TheVariants as R
-use Rattle.farm_nodes_seated.specs.declared.fault.OpenFault.{OpenFault}
-use Rattle.farm_nodes_seated.specs.declared.fault.OpenFault.TheVariants as O
-use Rattle.linker.specs.Numbers.{number_of_link_error}
+use Rattle.farm_nodes.specs.Told.{source_line}
+use Rattle.farm_nodes_turn_offer.specs.declared.halt.Fault.{Fault}
+use Rattle.farm_nodes_turn_offer.specs.Halted as halts
+use Rattle.farm_nodes.specs.RoomFault.{RoomFault}
+use Rattle.farm_nodes.specs.RoomFault.TheVariants as R
+use Rattle.farm_nodes.specs.OpenFault.{OpenFault}
+use Rattle.farm_nodes.specs.OpenFault.TheVariants as O
+use Rattle.farm_nodes.specs.FarmNodesLinkNumbers.{number_of_link_error}
 use Rattle.cfarm_build_faults.specs.Names.{fault_name, journal_name, link_name}
 use Rattle.cfarm_build_faults.specs.declared.error.BuildError.{BuildError}
 use Rattle.cfarm_build_faults.specs.declared.error.BuildError.TheVariants.{NoMemory, NoThread, Source, Disks, Failed, Undecided, Unlinked, Names}

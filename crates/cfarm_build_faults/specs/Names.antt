@@ -2,10 +2,10 @@
 use Rattle.std.specs.Prelude.{ℕ, List, codes}
 use Rattle.acceptor_log_form.specs.declared.errors.LogError.{LogError}
 use Rattle.acceptor_log_form.specs.declared.errors.LogError.TheVariants as L
-use Rattle.farm_nodes_offers.specs.declared.halt.Fault.{Fault}
-use Rattle.farm_nodes_offers.specs.declared.halt.Fault.TheVariants as F
-use Rattle.linker.specs.declared.errors.LinkError.{LinkError}
-use Rattle.linker.specs.declared.errors.LinkError.TheVariants as K
+use Rattle.farm_nodes_turn_offer.specs.declared.halt.Fault.{Fault}
+use Rattle.farm_nodes_turn_offer.specs.declared.halt.Fault.TheVariants as F
+use Rattle.farm_nodes.specs.LinkError.{LinkError}
+use Rattle.farm_nodes.specs.LinkError.TheVariants as K
 
 abbrev pub journal_name : LogError → List ℕ
 journal_name L.NoMemory = codes "NoMemory"

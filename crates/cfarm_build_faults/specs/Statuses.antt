@@ -1,11 +1,11 @@
 -- The exit status of the program where nothing is built: 1 where the text is refused, 3 where a node does not link, 4 for what the
 -- journals hold or what is linked, 7 for want of memory or of a thread.
 use Rattle.std.specs.Prelude.{ℕ, zero, suc}
-use Rattle.farm_nodes_source.specs.declared.fault.SourceFault.{SourceFault}
-use Rattle.farm_nodes_source.specs.Told as texts
-use Rattle.farm_nodes_seated.specs.declared.fault.OpenFault.{OpenFault}
-use Rattle.farm_nodes_offers.specs.declared.halt.Fault.{Fault}
-use Rattle.farm_nodes_offers.specs.Halted as halts
+use Rattle.farm_nodes.specs.SourceFault.{SourceFault}
+use Rattle.farm_nodes.specs.Told as texts
+use Rattle.farm_nodes.specs.OpenFault.{OpenFault}
+use Rattle.farm_nodes_turn_offer.specs.declared.halt.Fault.{Fault}
+use Rattle.farm_nodes_turn_offer.specs.Halted as halts
 use Rattle.farm_nodes.specs.Numbers.{disks_number_of}
 use Rattle.cfarm_build_faults.specs.declared.error.BuildError.{BuildError}
 use Rattle.cfarm_build_faults.specs.declared.error.BuildError.TheVariants.{NoMemory, NoThread, Source, Disks, Failed, Undecided, Unlinked, Names}

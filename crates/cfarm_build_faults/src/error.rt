@@ -1,11 +1,8 @@
 ghost use Rattle.std.specs.Prelude.{◌≡◌};
 ghost use Rattle.cfarm_build_faults.specs.Statuses.{disks_status_of, failed_status_of, source_status_of, status_of};
 
-use farm_nodes::FarmError;
-use linker::LinkError;
-use farm_nodes_seated::OpenFault;
-use farm_nodes_source::SourceFault;
-use farm_nodes_offers::Fault;
+use farm_nodes::{FarmError, LinkError, OpenFault, SourceFault};
+use farm_nodes_turn_offer::Fault;
 
 /// Why nothing is built. Its text is the line that a user is shown.
 #[derive(Debug, Drop)]

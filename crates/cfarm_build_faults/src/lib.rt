@@ -7,3 +7,6 @@ mod names;
 mod telling;
 
 pub use error::BuildError;
+pub use farm_nodes::{
+    Farm, OpenFault, Optimisers, Optimising, SourceFault, meet, optimisers_of, run_threads,
+};

@@ -4,8 +4,8 @@ ghost use Rattle.std.specs.Prelude.{◌≡◌};
 ghost use Rattle.cfarm_build_faults.specs.Names.{fault_name, journal_name, link_name};
 
 use acceptor_log_form::LogError;
-use linker::LinkError;
-use farm_nodes_offers::Fault;
+use farm_nodes::LinkError;
+use farm_nodes_turn_offer::Fault;
 
 pub(crate) fn journal_name(fault: LogError) -> &'static str
     ensures { result.now ≡ journal_name fault }

@@ -2,9 +2,8 @@
 
 use crate::error::BuildError;
 use crate::names::{fault_name, journal_name, link_name};
-use farm_nodes_seated::OpenFault;
-use farm_nodes_function_rooms::RoomFault;
-use farm_nodes_offers::Fault;
+use farm_nodes::{OpenFault, RoomFault};
+use farm_nodes_turn_offer::Fault;
 use std::fmt;
 
 /// What is told of a node, by the number and the name of its fault: want of memory is told as such.

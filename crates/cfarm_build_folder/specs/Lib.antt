@@ -4,3 +4,6 @@ pub mod Changed
 pub mod Disks
 pub mod Done
 pub mod Putting
+pub use Rattle.cfarm_build_faults.specs.Prepared
+pub use Rattle.cfarm_build_faults.specs.Refused
+pub use Rattle.cfarm_build_faults.specs.declared.error.BuildError

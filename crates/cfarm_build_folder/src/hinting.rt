@@ -3,13 +3,10 @@
 ghost use Rattle.std.specs.Prelude.{◌≡◌, [], false, string_bytes};
 
 use crate::error::BuildingError;
-use cfarm_build_faults::BuildError;
 use acceptor_log_form::LogError;
-use farm_nodes_seated::OpenFault;
-use farm_nodes_source::SourceFault;
+use cfarm_build_faults::{BuildError, OpenFault, SourceFault};
 use cfarm_files::Files;
-use c_texts::TextError;
-use cfarm_hints::{difference_of, explained};
+use cfarm_hints::{TextError, difference_of, explained};
 use cfarm_options::BuildOptions;
 use std::alloc::{AllocError, Global};
 

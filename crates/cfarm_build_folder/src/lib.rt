@@ -8,6 +8,7 @@ mod locking;
 mod opening;
 mod placing;
 
+pub use cfarm_build_faults::{BuildError, Farm, Optimisers, Optimising, optimisers_of};
 pub use error::BuildingError;
 pub use hinting::of_build;
 pub use locking::locked;

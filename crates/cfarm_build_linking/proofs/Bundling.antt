@@ -4,10 +4,10 @@ use Rattle.std.specs.Prelude.{IfSome}
 use Rattle.lang_base.specs.declared.program.Program.{Program}
 use Rattle.rtl_language.specs.Function as rtl
 use Rattle.linear_language.specs.Function as linear
-use Rattle.bundle_offers.specs.Linking.{BundleLinks}
-use Rattle.farm_nodes_linked.specs.Learned.{FourOffers}
-use Rattle.farm_nodes_linked.specs.Offered.{linked_offers, AllGoOn}
-use Rattle.farm_nodes_bundled.specs.Bundled.{LinksLearned}
+use Rattle.cfarm_build_result.specs.Linking.{BundleLinks}
+use Rattle.cfarm_build_result.specs.Learned.{FourOffers}
+use Rattle.cfarm_build_result.specs.Offered.{linked_offers, AllGoOn}
+use Rattle.cfarm_build_result.specs.Bundled.{LinksLearned}
 
 pub if_some : {T : Type 0} (P Q : T → Type 0) (o : Option T) → ((x : T) → P x → Q x) → IfSome o P → IfSome o Q
 if_some P Q None so is = tt

@@ -4,7 +4,7 @@ use Rattle.std.specs.Global.{Vec}
 use Rattle.std.specs.Prelude.{IfSome, option_map}
 use Rattle.rooms_hall.specs.declared.hall.Naming as naming
 use Rattle.c_checker_rules.specs.Checked.{program_tree}
-use Rattle.farm_nodes_source.specs.declared.source.Source.{Source}
+use Rattle.cfarm_build_result.specs.Source.{Source}
 use Rattle.cfarm_build_linking.specs.Built.{IsBuiltBy, IsBundledOf}
 use Rattle.cfarm_build_linking.specs.Carried.{Carries, bundle_of}
 use Rattle.cfarm_build_result.specs.Node.{Node}

@@ -5,11 +5,11 @@ use Rattle.lang_base.specs.declared.program.Program.{Program}
 use Rattle.rooms_hall.specs.declared.hall.Naming as naming
 use Rattle.rtl_language.specs.Function as rtl
 use Rattle.linear_language.specs.Function as linear
-use Rattle.farm_nodes_linked.specs.Alike.{HaveCounted}
-use Rattle.farm_nodes_linked.specs.Learned.{FourOffers, learned_by}
-use Rattle.farm_nodes_linked.specs.Offered.{linked_offers}
-use Rattle.rooms_numbered.specs.declared.seat.NumberedSeat.{NumberedSeat}
-use Rattle.farm_nodes_linked.proofs.Alike.{one_learned}
+use Rattle.cfarm_build_result.specs.Alike.{HaveCounted}
+use Rattle.cfarm_build_result.specs.Learned.{FourOffers, learned_by}
+use Rattle.cfarm_build_result.specs.Offered.{linked_offers}
+use Rattle.cfarm_build_result.specs.NumberedSeat.{NumberedSeat}
+use Rattle.cfarm_build_result.proofs.Alike.{one_learned}
 use Rattle.cfarm_build_result.specs.Neighbours.{EachTwo}
 
 module _ {N H : Type 0} {h : naming.Ghosts H} (seats : N → List (NumberedSeat H h)) where

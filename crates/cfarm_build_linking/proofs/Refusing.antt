@@ -8,14 +8,14 @@ use Rattle.c_program.specs.Views.{function_tree}
 use Rattle.cminor_lowering.specs.Programs.{low, low_named}
 use Rattle.rtl_language.specs.Function.{FunctionData}
 use Rattle.rtlgen_definition.specs.Gen.{gen, gen_named}
-use Rattle.linker.specs.Numbers.{function_of_link_error}
-use Rattle.linker.specs.declared.errors.LinkError.{LinkError}
-use Rattle.linker.specs.declared.errors.LinkError.TheVariants as links
+use Rattle.cfarm_build_result.specs.Numbers.{function_of_link_error}
+use Rattle.cfarm_build_result.specs.LinkError.{LinkError}
+use Rattle.cfarm_build_result.specs.LinkError.TheVariants as links
 use Rattle.rooms_hall.specs.declared.hall.Naming as naming
-use Rattle.rooms_numbered.specs.declared.seat.NumberedSeat.{NumberedSeat}
-use Rattle.farm_nodes_source.specs.declared.source.Source.{Source}
-use Rattle.farm_nodes_linked.specs.Learned.{FourOffers, learned_by}
-use Rattle.farm_nodes_linked.specs.Refused.{IsFirstBroken, IsUnlinkedTo}
+use Rattle.cfarm_build_result.specs.NumberedSeat.{NumberedSeat}
+use Rattle.cfarm_build_result.specs.Source.{Source}
+use Rattle.cfarm_build_result.specs.Learned.{FourOffers, learned_by}
+use Rattle.cfarm_build_result.specs.Refused.{IsFirstBroken, IsUnlinkedTo}
 use Rattle.cfarm_build_linking.specs.Refused.{IsToldOf, IsUnlinkedBy}
 use Rattle.cfarm_build_faults.specs.declared.error.BuildError.{BuildError}
 use Rattle.cfarm_build_faults.specs.declared.error.BuildError.TheVariants.{NoMemory, NoThread, Source as TextFault, Disks, Failed, Undecided, Unlinked, Names}

@@ -13,12 +13,12 @@ use Rattle.c_checker_rules.specs.Checked.{program_tree}
 use Rattle.cminor_lowering.specs.Programs.{low}
 use Rattle.rtlgen_definition.specs.Gen.{gen}
 use Rattle.rooms_hall.specs.declared.hall.Naming as naming
-use Rattle.farm_nodes_source.specs.declared.source.Source.{Source}
-use Rattle.rooms_numbered.specs.declared.seat.NumberedSeat.{NumberedSeat}
-use Rattle.farm_nodes_linked.specs.Alike.{HaveCounted}
-use Rattle.farm_nodes_linked.specs.Learned.{FourOffers, learned_by, IsUndecided}
-use Rattle.farm_nodes_linked.specs.Offered.{linked_offers}
-use Rattle.bundle_offers.specs.Linking.{BundleLinks}
+use Rattle.cfarm_build_result.specs.Source.{Source}
+use Rattle.cfarm_build_result.specs.NumberedSeat.{NumberedSeat}
+use Rattle.cfarm_build_result.specs.Alike.{HaveCounted}
+use Rattle.cfarm_build_result.specs.Learned.{FourOffers, learned_by, IsUndecided}
+use Rattle.cfarm_build_result.specs.Offered.{linked_offers}
+use Rattle.cfarm_build_result.specs.Linking.{BundleLinks}
 use Rattle.cfarm_build_result.specs.Made.{IsReportAt}
 use Rattle.cfarm_build_result.specs.Neighbours.{EachTwo}
 use Rattle.cfarm_build_result.specs.declared.built.Built.{Built}

@@ -10,7 +10,7 @@ use Rattle.c_program.specs.Meaning.{crun}
 use Rattle.c_program.specs.Trees.{ProgramTree}
 use Rattle.cminor_lowering.specs.Programs.{low}
 use Rattle.rtlgen_definition.specs.Gen.{gen}
-use Rattle.bundle_offers.specs.Linking.{BundleLinks}
+use Rattle.cfarm_build_result.specs.Linking.{BundleLinks}
 use Rattle.cfarm_build_result.specs.declared.built.Built.{Built}
 
 -- the bytes of the bundle that was made, where one was

@@ -5,13 +5,13 @@ use Rattle.c_checker_rules.specs.Checked.{program_tree}
 use Rattle.cminor_lowering.specs.Programs.{low}
 use Rattle.rtlgen_definition.specs.Gen.{gen}
 use Rattle.rooms_hall.specs.declared.hall.Naming as naming
-use Rattle.linker.specs.Numbers.{function_of_link_error}
-use Rattle.linker.specs.declared.errors.LinkError.{LinkError}
-use Rattle.linker.specs.declared.errors.LinkError.TheVariants as links
-use Rattle.farm_nodes_source.specs.declared.source.Source.{Source}
-use Rattle.rooms_numbered.specs.declared.seat.NumberedSeat.{NumberedSeat}
-use Rattle.farm_nodes_linked.specs.Learned.{learned_by, IsUndecided}
-use Rattle.farm_nodes_linked.specs.Refused.{IsFirstBroken}
+use Rattle.cfarm_build_result.specs.Numbers.{function_of_link_error}
+use Rattle.cfarm_build_result.specs.LinkError.{LinkError}
+use Rattle.cfarm_build_result.specs.LinkError.TheVariants as links
+use Rattle.cfarm_build_result.specs.Source.{Source}
+use Rattle.cfarm_build_result.specs.NumberedSeat.{NumberedSeat}
+use Rattle.cfarm_build_result.specs.Learned.{learned_by, IsUndecided}
+use Rattle.cfarm_build_result.specs.Refused.{IsFirstBroken}
 use Rattle.cfarm_build_faults.specs.declared.error.BuildError.{BuildError}
 use Rattle.cfarm_build_faults.specs.declared.error.BuildError.TheVariants.{NoMemory, NoThread, Source as TextFault, Disks, Failed, Undecided, Unlinked, Names}
 use Rattle.cfarm_build_linking.specs.Built.{AllDecided}

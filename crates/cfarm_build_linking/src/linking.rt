@@ -7,9 +7,9 @@ ghost use Rattle.c_checker_rules.specs.Checked.{program_tree};
 ghost use Rattle.cminor_lowering.specs.Programs.{low};
 ghost use Rattle.cminor_program_ranges.specs.Names.{HaveNames};
 ghost use Rattle.rtlgen_definition.specs.Gen.{gen};
-ghost use Rattle.linker.specs.Numbers.{function_of_link_error};
-ghost use Rattle.farm_nodes_linked.specs.Alike.{HaveCounted};
-ghost use Rattle.farm_nodes_linked.specs.Learned.{learned_by, IsUndecided};
+ghost use Rattle.cfarm_build_result.specs.Numbers.{function_of_link_error};
+ghost use Rattle.cfarm_build_result.specs.Alike.{HaveCounted};
+ghost use Rattle.cfarm_build_result.specs.Learned.{learned_by, IsUndecided};
 ghost use Rattle.cfarm_build_linking.specs.Built.{IsBuiltBy};
 ghost use Rattle.cfarm_build_result.specs.Neighbours.{EachTwo};
 ghost use Rattle.cfarm_build_result.specs.Node.{node};
@@ -17,12 +17,10 @@ ghost use Rattle.cfarm_build_linking.specs.Refused.{IsNotLinked, IsRefusedBy, Is
 
 use c_checker_rules::CProgram;
 use cfarm_build_faults::BuildError;
-use farm_nodes_source::Source;
-use cfarm_build_result::{Built, made_of};
-use farm_nodes_node::FarmNode;
-use linker::LinkError;
-use farm_nodes_linked::{LinkedError, is_undecided, linked_translated};
-use farm_nodes_source::name_of;
+use cfarm_build_result::{
+    Built, FarmNode, LinkError, LinkedError, Source, is_undecided, linked_translated, made_of,
+    name_of,
+};
 use lang_base::NoMemory;
 use rooms_hall::Naming;
 use std::alloc::Global;

@@ -4,8 +4,8 @@ use Rattle.std.specs.Prelude.{slice_get}
 use Rattle.std.proofs.lemmas.Bool.{cases_eq}
 use Rattle.std.proofs.lemmas.Option.{slice_get_within}
 use Rattle.rooms_hall.specs.declared.hall.Naming as naming
-use Rattle.rooms_numbered.specs.declared.seat.NumberedSeat.{NumberedSeat}
-use Rattle.cfarm_report.specs.declared.function.FunctionRooms.{FunctionRooms}
+use Rattle.farm_nodes_link.specs.NumberedSeat.{NumberedSeat}
+use Rattle.cfarm_build_result.specs.declared.function.FunctionRooms.{FunctionRooms}
 use Rattle.cfarm_build_result.specs.Told.{AreTold, IsTold}
 
 -- one behind the others

@@ -1,4 +1,17 @@
+pub mod Bundled
+pub mod Report
 pub mod Made
 pub mod Neighbours
 pub mod Node
 pub mod Told
+pub use Rattle.bundle_offers.specs.Linking
+pub use Rattle.farm_nodes_link.specs.Alike
+pub use Rattle.farm_nodes_link.specs.FarmNodesMeetSeatsHeld
+pub use Rattle.farm_nodes_link.specs.Learned
+pub use Rattle.farm_nodes_link.specs.Lists
+pub use Rattle.farm_nodes_source.specs.declared.source.Source
+pub use Rattle.farm_nodes_link.specs.NumberedSeat
+pub use Rattle.farm_nodes_link.specs.Offered
+pub use Rattle.farm_nodes_link.specs.Refused
+pub use Rattle.farm_nodes_link.specs.Numbers
+pub use Rattle.farm_nodes_link.specs.LinkError

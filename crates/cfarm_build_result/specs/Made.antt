@@ -9,11 +9,11 @@ use Rattle.lang.specs.Form.{program_text}
 use Rattle.linear_language.specs.Function.{FunctionData}
 use Rattle.linear_language.specs.Spelling.{spelling}
 use Rattle.rooms_hall.specs.declared.hall.Naming as naming
-use Rattle.rooms_numbered.specs.declared.seat.NumberedSeat.{NumberedSeat}
-use Rattle.farm_nodes_linked.specs.Learned.{learned_by}
-use Rattle.farm_nodes_bundled.specs.Bundled.{LinksLearned}
-use Rattle.cfarm_report.specs.declared.function.FunctionRooms.{FunctionRooms}
-use Rattle.cfarm_report.specs.Report.{report_of}
+use Rattle.farm_nodes_link.specs.NumberedSeat.{NumberedSeat}
+use Rattle.farm_nodes_link.specs.Learned.{learned_by}
+use Rattle.cfarm_build_result.specs.Bundled.{LinksLearned}
+use Rattle.cfarm_build_result.specs.declared.function.FunctionRooms.{FunctionRooms}
+use Rattle.cfarm_build_result.specs.Report.{report_of}
 use Rattle.cfarm_build_result.specs.Told.{AreTold}
 use Rattle.cfarm_build_result.specs.declared.built.Built.{Built}
 

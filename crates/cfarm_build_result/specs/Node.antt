@@ -2,8 +2,8 @@
 use Rattle.std.specs.Prelude.{List, Option}
 use Rattle.acceptor_log.specs.declared.log.Log.{Log}
 use Rattle.rooms_hall.specs.declared.hall.Naming as naming
-use Rattle.rooms_numbered.specs.declared.seat.NumberedSeat.{NumberedSeat}
-use Rattle.farm_nodes_node.specs.declared.halted.Halted.{Halted}
+use Rattle.farm_nodes_link.specs.NumberedSeat.{NumberedSeat}
+use Rattle.farm_nodes_link.specs.Halted.{Halted}
 
 -- its journal, its seats, and what stopped it
 pub record Node (D : Type 0) (H : Type 0) (h : naming.Ghosts H) : Type 0 where

@@ -3,8 +3,8 @@ use Rattle.std.specs.Prelude.{◌≡◌, ℕ, List, length, map, Some, slice_get
 use Rattle.std.specs.String.{string_bytes}
 use Rattle.c_checker_rules.specs.Checked.{Contents}
 use Rattle.rooms_hall.specs.declared.hall.Naming as naming
-use Rattle.rooms_numbered.specs.declared.seat.NumberedSeat.{NumberedSeat}
-use Rattle.cfarm_report.specs.declared.function.FunctionRooms.{FunctionRooms}
+use Rattle.farm_nodes_link.specs.NumberedSeat.{NumberedSeat}
+use Rattle.cfarm_build_result.specs.declared.function.FunctionRooms.{FunctionRooms}
 
 -- the names of a checked program's functions
 abbrev pub function_names : Contents → List (List ℕ)

@@ -4,13 +4,12 @@ ghost use Rattle.std.specs.Prelude.{◌≡◌, IsSome, is_some, count_by, length
 ghost use Rattle.std.specs.String.{string_bytes};
 ghost use Rattle.c_checker_rules.specs.Checked.{program_tree};
 ghost use Rattle.cminor_program_ranges.specs.Names.{HaveNames};
-ghost use Rattle.farm_nodes_linked.specs.Learned.{learned_by, learned_four, IsUndecided};
+ghost use Rattle.farm_nodes_link.specs.Learned.{learned_by, learned_four, IsUndecided};
 ghost use Rattle.cfarm_build_result.specs.Told.{AreTold, IsTold, function_names};
 
+use crate::function::FunctionRooms;
 use c_checker_rules::CProgram;
-use cfarm_report::FunctionRooms;
-use rooms_numbered::NumberedSeat;
-use farm_nodes_linked::has_learned_all;
+use farm_nodes_link::{NumberedSeat, has_learned_all};
 use farm_nodes_source::name_of;
 use lang_base::NoMemory;
 use rooms_hall::Naming;

@@ -5,13 +5,13 @@ use Rattle.std.specs.Prelude.{option_map, slice_get}
 use Rattle.std.proofs.lemmas.Bool.{cases_eq}
 use Rattle.std.proofs.lemmas.Option.{slice_get-map, slice_get_within}
 use Rattle.rooms_hall.specs.declared.hall.Naming as naming
-use Rattle.farm_nodes_linked.specs.Alike.{HaveCounted, HaveCountedAll, HaveMissed, KeepsLearned}
+use Rattle.cfarm_build_result.specs.Alike.{HaveCounted, HaveCountedAll, HaveMissed, KeepsLearned}
 use Rattle.cfarm_build_result.specs.Neighbours.{EachTwo}
-use Rattle.farm_nodes_seat_meeting.specs.Held.{held_of}
-use Rattle.farm_nodes_linked.specs.Learned.{learned_by}
-use Rattle.farm_nodes_seat_meeting.specs.Lists.{HaveMetAll}
-use Rattle.rooms_numbered.specs.declared.seat.NumberedSeat.{NumberedSeat}
-use Rattle.farm_nodes_linked.proofs.Alike.{counted_now, keeps_through}
+use Rattle.cfarm_build_result.specs.FarmNodesMeetSeatsHeld.{held_of}
+use Rattle.cfarm_build_result.specs.Learned.{learned_by}
+use Rattle.cfarm_build_result.specs.Lists.{HaveMetAll}
+use Rattle.farm_nodes_turn_passes.specs.NumberedSeat.{NumberedSeat}
+use Rattle.cfarm_build_result.proofs.Alike.{counted_now, keeps_through}
 use Rattle.cfarm_build_turns.specs.Nodes.{AreCountedAt, AreMissed}
 use Rattle.cfarm_build_result.proofs.Zips.{as_long, zipped}
 

@@ -1,9 +1,9 @@
 -- The lowest node that failed, looked for in order.
 use Rattle.std.proofs.Common.{◌≡◌, ℕ, zero, suc, ◌<◌, ◌≤◌, List, [], ◌∷◌, map, length, get_or, drop, Option, Some, None, refl, sym, ap, ◌∙◌, arith}
-use Rattle.farm_nodes_offers.specs.declared.halt.Fault.{Fault}
+use Rattle.farm_nodes_turn_offer.specs.declared.halt.Fault.{Fault}
 use Rattle.std.specs.List.{AllByRecursion}
-use Rattle.farm_nodes_node.specs.declared.halted.Halted.{Halted}
-use Rattle.farm_nodes_node.specs.Held.{fault_in}
+use Rattle.farm_nodes_turn_node.specs.declared.halted.Halted.{Halted}
+use Rattle.farm_nodes_turn_node.specs.Held.{fault_in}
 use Rattle.cfarm_build_turns.specs.Nodes.{lowest_failed}
 
 module _ {N : Type 0} (fault : N → Option Fault) where

@@ -7,21 +7,21 @@ use Rattle.durable_pair.specs.declared.pair.Pair as pairs
 use Rattle.acceptor_log.specs.declared.log.Log.{Log}
 use Rattle.rand_pcg.specs.Lcg.{Lcg}
 use Rattle.rooms_hall.specs.declared.hall.Naming as naming
-use Rattle.farm_nodes_passes.specs.Fours.{Four, fours_of}
-use Rattle.rooms_numbered.specs.declared.seat.NumberedSeat.{NumberedSeat}
-use Rattle.farm_nodes_node.specs.declared.halted.Halted.{Halted}
-use Rattle.farm_nodes_node.specs.Held.{fault_in, IsSoundNode}
-use Rattle.farm_nodes_source.specs.declared.source.Source.{Source}
+use Rattle.farm_nodes_turn_passes.specs.Fours.{Four, fours_of}
+use Rattle.farm_nodes_turn_passes.specs.NumberedSeat.{NumberedSeat}
+use Rattle.farm_nodes_turn_node.specs.declared.halted.Halted.{Halted}
+use Rattle.farm_nodes_turn_node.specs.Held.{fault_in, IsSoundNode}
+use Rattle.cfarm_build_result.specs.Source.{Source}
 use Rattle.paxos_core_world.specs.Quorum.{Sizes}
-use Rattle.farm_nodes_joining.specs.Words.{generators}
-use Rattle.farm_nodes_opened.specs.Back.{AreJournalsOn}
-use Rattle.farm_nodes_opened.specs.Opened.{AreOpenFromJournals}
-use Rattle.farm_nodes_threads.specs.CameBack.{CameBack}
-use Rattle.farm_nodes_passes.specs.Offers.{ConstantsOffer, ExpressionsOffer, AllocationOffer, OrderOffer}
-use Rattle.farm_nodes_passes.specs.Texts.{pass_texts}
-use Rattle.farm_nodes_linked.specs.Learned.{FourOffers, learned_by}
-use Rattle.farm_nodes_linked.proofs.Alike.{keeps_none, keeps_through}
-use Rattle.farm_nodes_threads.proofs.Coming.{came_through}
+use Rattle.cfarm_build_faults.specs.Words.{generators}
+use Rattle.cfarm_build_faults.specs.Back.{AreJournalsOn}
+use Rattle.cfarm_build_faults.specs.Opened.{AreOpenFromJournals}
+use Rattle.cfarm_build_faults.specs.CameBack.{CameBack}
+use Rattle.farm_nodes_turn_passes.specs.Offers.{ConstantsOffer, ExpressionsOffer, AllocationOffer, OrderOffer}
+use Rattle.farm_nodes_turn_passes.specs.Texts.{pass_texts}
+use Rattle.cfarm_build_result.specs.Learned.{FourOffers, learned_by}
+use Rattle.cfarm_build_result.proofs.Alike.{keeps_none, keeps_through}
+use Rattle.cfarm_build_faults.proofs.Coming.{came_through}
 use Rattle.cfarm_build_result.specs.Node.{Node, node}
 use Rattle.cfarm_build_turns.specs.Nodes.{Begun, HasStayed, HaveMet, HaveRun, IsSound, Meets, TurnedInto, failed_of, lowest_failed}
 use Rattle.cfarm_build_result.proofs.Zips.{all_mapped, all_of, all_weaker, as_long, kept, map_twice, seen, through, written}

@@ -1,3 +1,12 @@
 pub mod Nodes
 pub mod NotRun
 pub mod Unmet
+pub use Rattle.cfarm_build_result.specs.Alike
+pub use Rattle.cfarm_build_result.specs.Learned
+pub use Rattle.farm_nodes_turn_node.specs.Held
+pub use Rattle.farm_nodes_turn_node.specs.declared.halted.Halted
+pub use Rattle.cfarm_build_result.specs.Neighbours
+pub use Rattle.cfarm_build_result.specs.Node
+pub use Rattle.cfarm_build_result.specs.declared.built.Built
+pub use Rattle.farm_nodes_turn_passes.specs.NumberedSeat
+pub use Rattle.farm_nodes_turn_offer.specs.declared.halt.Fault

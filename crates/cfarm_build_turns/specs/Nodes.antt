@@ -9,21 +9,21 @@ use Rattle.durable_model.specs.declared.disk.Disk as disks
 use Rattle.durable_pair.specs.declared.pair.Pair as pairs
 use Rattle.acceptor_log.specs.declared.log.Log.{Log}
 use Rattle.rooms_hall.specs.declared.hall.Naming as naming
-use Rattle.farm_nodes_offers.specs.declared.halt.Fault.{Fault}
-use Rattle.farm_nodes_passes.specs.Offers.{ConstantsOffer, ExpressionsOffer, AllocationOffer, OrderOffer}
-use Rattle.farm_nodes_passes.specs.Fours.{Four, fours_of}
-use Rattle.rooms_numbered.specs.declared.seat.NumberedSeat.{NumberedSeat}
-use Rattle.farm_nodes_node.specs.declared.farm_node.FarmNode.{FarmNode}
-use Rattle.farm_nodes_node.specs.declared.halted.Halted.{Halted}
-use Rattle.farm_nodes_node.specs.Held.{fault_in, IsSoundNode}
-use Rattle.farm_nodes_source.specs.declared.source.Source.{Source}
+use Rattle.farm_nodes_turn_offer.specs.declared.halt.Fault.{Fault}
+use Rattle.farm_nodes_turn_passes.specs.Offers.{ConstantsOffer, ExpressionsOffer, AllocationOffer, OrderOffer}
+use Rattle.farm_nodes_turn_passes.specs.Fours.{Four, fours_of}
+use Rattle.farm_nodes_turn_passes.specs.NumberedSeat.{NumberedSeat}
+use Rattle.farm_nodes_turn_node.specs.declared.farm_node.FarmNode.{FarmNode}
+use Rattle.farm_nodes_turn_node.specs.declared.halted.Halted.{Halted}
+use Rattle.farm_nodes_turn_node.specs.Held.{fault_in, IsSoundNode}
+use Rattle.cfarm_build_result.specs.Source.{Source}
 use Rattle.paxos_core_world.specs.Quorum.{Sizes}
-use Rattle.farm_nodes_linked.specs.Alike.{HaveCounted, HaveMissed, KeepsLearned}
-use Rattle.farm_nodes_linked.specs.Learned.{FourOffers, learned_by}
-use Rattle.farm_nodes_threads.specs.CameBack.{CameBack}
-use Rattle.farm_nodes_joining.specs.Words.{generators}
-use Rattle.farm_nodes_opened.specs.Back.{AreJournalsOn}
-use Rattle.farm_nodes_opened.specs.Opened.{AreOpenFromJournals}
+use Rattle.cfarm_build_result.specs.Alike.{HaveCounted, HaveMissed, KeepsLearned}
+use Rattle.cfarm_build_result.specs.Learned.{FourOffers, learned_by}
+use Rattle.cfarm_build_faults.specs.CameBack.{CameBack}
+use Rattle.cfarm_build_faults.specs.Words.{generators}
+use Rattle.cfarm_build_faults.specs.Back.{AreJournalsOn}
+use Rattle.cfarm_build_faults.specs.Opened.{AreOpenFromJournals}
 use Rattle.cfarm_build_result.specs.Node.{Node}
 
 -- a program of as many functions at most as a text that was made ready has

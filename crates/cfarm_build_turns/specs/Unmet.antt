@@ -2,8 +2,8 @@
 use Rattle.std.specs.Prelude.{◌≡◌, List, map, Option, Some, None}
 use Rattle.std.specs.List.{AllZip}
 use Rattle.rooms_hall.specs.declared.hall.Naming as naming
-use Rattle.farm_nodes_offers.specs.declared.halt.Fault.{Fault}
-use Rattle.rooms_numbered.specs.declared.seat.NumberedSeat.{NumberedSeat}
+use Rattle.farm_nodes_turn_offer.specs.declared.halt.Fault.{Fault}
+use Rattle.farm_nodes_turn_passes.specs.NumberedSeat.{NumberedSeat}
 use Rattle.cfarm_build_faults.specs.declared.error.BuildError.{BuildError}
 use Rattle.cfarm_build_faults.specs.declared.error.BuildError.TheVariants.{NoMemory, NoThread, Source, Disks, Failed, Undecided, Unlinked, Names}
 use Rattle.cfarm_build_turns.specs.Nodes.{AreMissed, lowest_failed}

@@ -1,10 +1,10 @@
 ghost use Rattle.std.specs.Prelude.{◌≡◌, map};
-ghost use Rattle.farm_nodes_node.specs.Held.{fault_in};
+ghost use Rattle.farm_nodes_turn_node.specs.Held.{fault_in};
 ghost use Rattle.cfarm_build_turns.specs.Nodes.{lowest_failed};
 
-use farm_nodes_node::FarmNode;
 use durable_model::Disk;
-use farm_nodes_offers::Fault;
+use farm_nodes_turn_node::FarmNode;
+use farm_nodes_turn_offer::Fault;
 use rooms_hall::Naming;
 
 /// The lowest node that a fault stopped.

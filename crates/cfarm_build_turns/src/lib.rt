@@ -7,5 +7,6 @@ mod meeting;
 mod met;
 mod running;
 
+pub use cfarm_build_result::Built;
 pub use met::met_all;
 pub use running::run_rounds;

@@ -3,13 +3,13 @@
 ghost use Rattle.std.specs.Prelude.{◌≡◌, ◌<◌, ◌+◌, IsTrue, None, length};
 ghost use Rattle.std.specs.Arc.{arc_value};
 ghost use Rattle.std.specs.List.{AllByRecursion, AllZip};
-ghost use Rattle.farm_nodes_linked.specs.Alike.{HaveCounted};
+ghost use Rattle.cfarm_build_result.specs.Alike.{HaveCounted};
 ghost use Rattle.cfarm_build_result.specs.Neighbours.{EachTwo};
 ghost use Rattle.cfarm_build_turns.specs.Nodes.{AreCountedAt, AreMissed, HasFewFunctions, NodeStays};
 
-use farm_nodes_node::FarmNode;
-use farm_nodes_node_meeting::meet;
+use cfarm_build_faults::meet;
 use durable_model::Disk;
+use farm_nodes_turn_node::FarmNode;
 use rooms_hall::Naming;
 
 /// Whether so many functions are all of both.

@@ -3,8 +3,8 @@
 ghost use Rattle.std.specs.Prelude.{◌≡◌, None, map, OnOk, IfOk, IfErr};
 ghost use Rattle.std.specs.Arc.{arc_value};
 ghost use Rattle.std.specs.List.{AllByRecursion, AllZip};
-ghost use Rattle.farm_nodes_linked.specs.Alike.{HaveCounted};
-ghost use Rattle.farm_nodes_node.specs.Held.{fault_in};
+ghost use Rattle.cfarm_build_result.specs.Alike.{HaveCounted};
+ghost use Rattle.farm_nodes_turn_node.specs.Held.{fault_in};
 ghost use Rattle.cfarm_build_result.specs.Neighbours.{EachTwo};
 ghost use Rattle.cfarm_build_turns.specs.Nodes.{HasFewFunctions, NodeStays, lowest_failed};
 ghost use Rattle.cfarm_build_turns.specs.Unmet.{IsUnmet};
@@ -12,8 +12,8 @@ ghost use Rattle.cfarm_build_turns.specs.Unmet.{IsUnmet};
 use crate::failing::first_failed;
 use crate::meeting::meet_neighbours;
 use cfarm_build_faults::BuildError;
-use farm_nodes_node::FarmNode;
 use durable_model::Disk;
+use farm_nodes_turn_node::FarmNode;
 use rooms_hall::Naming;
 
 /// The nodes after each two neighbours have met, where none had failed; the lowest that had is told. All functions were counted.

@@ -2,19 +2,18 @@
 
 ghost use Rattle.std.specs.Prelude.{◌<◌, length, IfOk, IfErr};
 ghost use Rattle.std.specs.List.{AllByRecursion, AllZip};
-ghost use Rattle.farm_nodes_node.specs.Asked.{MayBeAsked};
-ghost use Rattle.farm_nodes_threads.specs.Nodes.{NodeCameBack};
+ghost use Rattle.farm_nodes_turn_node.specs.Asked.{MayBeAsked};
+ghost use Rattle.cfarm_build_faults.specs.Nodes.{NodeCameBack};
 ghost use Rattle.cfarm_build_turns.specs.NotRun.{IsNotRun};
 
 use crate::learning::{has_learned_all, learned_rooms};
-use cfarm_build_faults::BuildError;
-use farm_nodes_node::FarmNode;
-use farm_nodes_workers::RunError;
-use farm_nodes_threads::run_threads;
-use farm_nodes_passes::Oracles;
+use cfarm_build_faults::{BuildError, run_threads};
 use cfarm_build_result::linked_functions;
-use cfarm_meter::Meter;
+use cfarm_options::Meter;
 use durable_model::Disk;
+use farm_nodes_threads_teams::RunError;
+use farm_nodes_turn_node::FarmNode;
+use farm_nodes_turn_passes::Oracles;
 use parallel_validate::OpenGate;
 use rooms_hall::Naming;
 use std::alloc::Global;

@@ -2,11 +2,11 @@
 use Rattle.std.specs.Prelude.{◌≡◌, ◌==◌, ℕ, Bool, false, List, [], ◌∷◌, codes}
 use Rattle.std.proofs.Common.{ap, refl, true≢false, ◌∙◌}
 use Rattle.clap.specs.Words.{Row}
-use Rattle.cfarm_command_parts.specs.declared.task.FsckOptions.{FsckOptions}
-use Rattle.cfarm_command_parts.specs.declared.task.Task.{Task}
-use Rattle.cfarm_command_parts.specs.declared.task.Task.TheVariants.{Check, Interpret, Build, Exec, Settle, Simulate, Show, Verify, Emit, Judge, Fsck}
-use Rattle.cfarm_command_parts.specs.declared.task.Task.TheVariants as task
-use Rattle.cfarm_command_parts.specs.Words.{AreFsckOptions, IsTask}
+use Rattle.cfarm_command_line_others.specs.declared.task.FsckOptions.{FsckOptions}
+use Rattle.cfarm_command_line_others.specs.declared.task.Task.{Task}
+use Rattle.cfarm_command_line_others.specs.declared.task.Task.TheVariants.{Check, Interpret, Build, Exec, Settle, Simulate, Show, Verify, Emit, Judge, Fsck}
+use Rattle.cfarm_command_line_others.specs.declared.task.Task.TheVariants as task
+use Rattle.cfarm_command_line_others.specs.Words.{AreFsckOptions, IsTask}
 
 -- whether a name begins with `f`: of all commands `fsck` alone
 abbrev begins_with_f : List ℕ → Bool

@@ -3,13 +3,13 @@
 ghost use Rattle.std.specs.Prelude.{◌≡◌, Some, map, codes, string_bytes, IfOk, IfErr, IfSome, IsNone};
 ghost use Rattle.clap.specs.Words.{FailsBy, fault_of, first_value, found_of, rows_of};
 ghost use Rattle.clap.specs.Words.{subcommand_rows_of};
-ghost use Rattle.cfarm_command_parts.specs.declared.task.Task.{Task};
-ghost use Rattle.cfarm_command_parts.specs.Words.{AsksFor, AsksNothing, AsksNothingBy, IsAskedBy, IsRefusedRightly, IsTask};
-ghost use Rattle.cfarm_command_parts.specs.Words.{IsCommand, farm, statuses_app, top_app};
+ghost use Rattle.cfarm_command_line_others.specs.declared.task.Task.{Task};
+ghost use Rattle.cfarm_command_line_others.specs.Words.{AsksFor, AsksNothing, AsksNothingBy, IsAskedBy, IsRefusedRightly, IsTask};
+ghost use Rattle.cfarm_command_line_others.specs.Words.{IsCommand, farm, statuses_app, top_app};
 
 use crate::build_words::{build, options_of};
 use crate::fsck_words::{fsck, fsck_options_of};
-use cfarm_command_parts::{
+use cfarm_command_line_others::{
     Asked, Choices, FILE, Task, check, depth_of, emit, emit_seed_of, emitted_of, exec, expected_of,
     format_of, interpret, judge, limit_of, list, offer_of, paths_of, settle, show, showing_of, sim,
     verify, with_command,

@@ -4,7 +4,7 @@ use Rattle.std.specs.List.{AllByRecursion}
 use Rattle.lang_base.specs.declared.program.Named.{Named}
 use Rattle.rtl_language.specs.Function as rtl
 use Rattle.ltl.specs.Function as ltl
-use Rattle.linker.specs.Chains.{names_of}
+use Rattle.chains.specs.Chains.{names_of}
 use Rattle.chains.specs.declared.offering.Offers.{Offers}
 use Rattle.chains.specs.Lent.{Chain, IsLent}
 use Rattle.bundle_form.specs.declared.bundle.Bundle.{Bundle}

@@ -24,8 +24,8 @@ use Rattle.chains.specs.Accepted.{AreAccepted}
 use Rattle.chains_made.specs.Baselines.{AreBaselines}
 use Rattle.chains.specs.Offered.{AllGoOn, linked_offers}
 use Rattle.bundle_reading.specs.Texts.{IsBundleOf}
-use Rattle.cfarm_emitted.specs.declared.Emitted.{Emitted}
-use Rattle.cfarm_emitted.specs.declared.Emitted.TheVariants as form
+use Rattle.cfarm_options.specs.declared.emitted.Emitted.{Emitted}
+use Rattle.cfarm_options.specs.declared.emitted.Emitted.TheVariants as form
 
 -- what a program is translated to, with which the first pass begins: its names are C names, and it has a spelling
 pub record IsReady (p : ProgramTree) (begun : Program rtl.FunctionData) : Type 0 where

@@ -4,10 +4,10 @@ use Rattle.std.specs.Io.KnownBytes.{Appends}
 use Rattle.sha2.specs.Sha256.{sha256}
 use Rattle.c_syntax.specs.Trees.{UnitTree}
 use Rattle.c_checker_rules.specs.Units.{program_of}
-use Rattle.c_texts.specs.Accepted.{IsAccepted}
+use Rattle.farm_nodes_source.specs.Accepted.{IsAccepted}
 use Rattle.farm_nodes_source.specs.Refused.{IsUnprepared}
 use Rattle.cfarm_output.specs.Begun.{IsBegun}
-use Rattle.cfarm_emitted.specs.declared.Emitted.{Emitted}
+use Rattle.cfarm_options.specs.declared.emitted.Emitted.{Emitted}
 use Rattle.cfarm_emit.specs.Made.{IsMadeOf}
 use Rattle.cfarm_emit.specs.declared.error.EmitError.{EmitError}
 use Rattle.cfarm_emit.specs.declared.error.EmitError.TheVariants.{Source, NoMemory, Write}

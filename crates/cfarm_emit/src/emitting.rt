@@ -5,7 +5,7 @@ ghost use Rattle.cfarm_emit.specs.Told.{HasEmitted, IsEmitted, IsTold, Printed};
 
 use crate::error::EmitError;
 use crate::forms::form_text;
-use cfarm_emitted::Emitted;
+use cfarm_options::Emitted;
 use cfarm_output::print_whole;
 use farm_nodes_source::prepare;
 use lang_base::NoMemory;

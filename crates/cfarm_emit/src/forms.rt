@@ -7,10 +7,10 @@ ghost use Rattle.cfarm_emit.specs.Made.{IsBundledOf, IsCminorOf, IsLinearOf, IsL
 
 use crate::offering::{all_texts, made_offers};
 use crate::texts::{headed_text, linked_text, text_of, thirds_text};
-use chains::Offers;
 use bundle_reading::written;
 use c_checker_rules::CProgram;
-use cfarm_emitted::Emitted;
+use cfarm_options::Emitted;
+use chains::Offers;
 use cminor::lower;
 use cminor_language::Cminor;
 use lang_base::{NoMemory, Program, keeps_composes};

@@ -6,10 +6,10 @@ ghost use Rattle.bundle_reading.specs.Texts.{texts_of, OffersFit};
 ghost use Rattle.bundle_form.specs.Form.{TextsFit};
 ghost use Rattle.cfarm_emit.specs.Made.{AreMade};
 
-use chains::Offers;
-use chains_made::{Maker, all_offers};
 use bundle_form::Texts;
 use bundle_reading::texts_of;
+use chains::Offers;
+use chains_made::{Maker, all_offers};
 use lang_base::{Named, NoMemory};
 use rand_pcg::Pcg32;
 use rtl_language::Function;

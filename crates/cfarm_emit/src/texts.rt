@@ -8,14 +8,14 @@ ghost use Rattle.cminor_program_ranges.specs.Heads.{HasHeadOf};
 ghost use Rattle.cminor_program_ranges.specs.Names.{HaveNames};
 ghost use Rattle.lang.specs.Form.{IsProgram, program_text};
 ghost use Rattle.linear_language.specs.Meaning as linear;
-ghost use Rattle.linker.specs.Chains.{names_of};
+ghost use Rattle.chains.specs.Chains.{names_of};
 ghost use Rattle.rtl_language.specs.Meaning as rtl;
 ghost use Rattle.chains.specs.Offered.{linked_offers};
 ghost use Rattle.cfarm_emit.specs.Made.{IsLinkedFrom, text_of_thirds};
 
 use crate::thirds::third_program;
-use chains::{Offers, link_offers};
 use c_checker_rules::CProgram;
+use chains::{Offers, link_offers};
 use cminor_program_ranges::same_head_fits;
 use lang::write_program;
 use lang_base::{Language, NoMemory, Program};

@@ -5,7 +5,7 @@ ghost use Rattle.cfarm_emit.specs.Made.{third_program, thirds_of};
 
 use chains::Offers;
 use lang_base::{Language, Named, NoMemory, Program, Row};
-use lang_parts::copy_globals;
+use lang_helpers::copy_globals;
 use ltl::{Function, Ltl};
 use std::alloc::Global;
 

@@ -1,3 +1,4 @@
+pub mod ChosenLemmas
 pub mod Begun
 pub mod Answered
 pub mod Opening

@@ -7,10 +7,10 @@ use Rattle.paxos_core_world.specs.Quorum.{Sizes}
 use Rattle.acceptor_log_form.specs.declared.record.Record.{Record}
 use Rattle.acceptor_log_form.specs.declared.errors.LogError.{LogError}
 use Rattle.acceptor_log_form.specs.declared.errors.LogError.TheVariants as log
-use Rattle.farm_nodes_function_rooms.specs.declared.fault.RoomFault.{RoomFault}
-use Rattle.farm_nodes_seated.specs.Refused.{HasBadRecord, HasRefusedOffer, IsRoomUnopened}
-use Rattle.farm_nodes_seated.specs.declared.fault.OpenFault.{OpenFault}
-use Rattle.farm_nodes_seated.specs.declared.fault.OpenFault.TheVariants.{NoMemory, Journal, Refused, Room}
+use Rattle.farm_nodes_open_seats.specs.RoomFault.{RoomFault}
+use Rattle.farm_nodes_open_seats.specs.Refused.{HasBadRecord, HasRefusedOffer, IsRoomUnopened}
+use Rattle.farm_nodes_open_seats.specs.declared.fault.OpenFault.{OpenFault}
+use Rattle.farm_nodes_open_seats.specs.declared.fault.OpenFault.TheVariants.{NoMemory, Journal, Refused, Room}
 use Rattle.cfarm_fsck_journals.specs.declared.files.NodeFiles.{NodeFiles}
 use Rattle.cfarm_fsck.specs.Folder.{AreJournalsIn, IsNoOther, IsOfRefusedFile}
 use Rattle.cfarm_fsck.specs.Told.{IsFaultOf}

@@ -4,11 +4,11 @@ use Rattle.std.specs.Global.{Vec}
 use Rattle.paxos_core_world.specs.Quorum.{Sizes}
 use Rattle.acceptor_log_form.specs.declared.record.Record.{Record}
 use Rattle.acceptor_log_form.specs.declared.errors.LogError.{LogError}
-use Rattle.farm_nodes_disks.specs.Journals.{header_of}
-use Rattle.farm_nodes_stored.specs.Nodes.{AllMade, AreMade, AtNode}
-use Rattle.farm_nodes_function_rooms.specs.declared.fault.RoomFault.{RoomFault}
-use Rattle.farm_nodes_seated.specs.declared.fault.OpenFault.{OpenFault}
-use Rattle.farm_nodes_seated.specs.declared.fault.OpenFault.TheVariants.{Journal, Refused, Room}
+use Rattle.farm_nodes_open_journals.specs.Journals.{header_of}
+use Rattle.farm_nodes_open_seats.specs.Nodes.{AllMade, AreMade, AtNode}
+use Rattle.farm_nodes_open_seats.specs.RoomFault.{RoomFault}
+use Rattle.farm_nodes_open_seats.specs.declared.fault.OpenFault.{OpenFault}
+use Rattle.farm_nodes_open_seats.specs.declared.fault.OpenFault.TheVariants.{Journal, Refused, Room}
 use Rattle.cfarm_fsck_journals.specs.declared.files.NodeFiles.{NodeFiles}
 use Rattle.cfarm_fsck_journals.specs.Listed.{AreListedIn, AreRefusedIn, HasSize}
 

@@ -1,3 +1,5 @@
+pub mod Chosen
+pub mod Lines
 pub mod Folder
 pub mod Printed
 pub mod Telling

@@ -5,8 +5,8 @@ use Rattle.lang_base.specs.declared.program.Named.{Named}
 use Rattle.rtl_language.specs.declared.function.Function.{Function}
 use Rattle.paxos_core_world.specs.KeptPart.{KeptPart}
 use Rattle.acceptor_log_form.specs.declared.record.Record.{Record}
-use Rattle.farm_nodes_function_rooms.specs.Kept.{kept_of}
-use Rattle.cfarm_fsck_lines.specs.Lines.{node_line, room_rest}
+use Rattle.farm_nodes_open_seats.specs.Kept.{kept_of}
+use Rattle.cfarm_fsck.specs.Lines.{node_line, room_rest}
 
 -- a line for each of a list, counted from this number
 abbrev pub lines_from : {A : Type 0} → (ℕ → A → List ℕ) → ℕ → List A → List ℕ

@@ -9,12 +9,12 @@ use Rattle.paxos_core_world.specs.Quorum.{Sizes}
 use Rattle.acceptor_log_form.specs.declared.record.Record.{Record}
 use Rattle.acceptor_log_form.specs.declared.errors.LogError.{LogError}
 use Rattle.acceptor_log_form.specs.declared.errors.LogError.TheVariants as log
-use Rattle.farm_nodes_stored.specs.Nodes.{AreMade}
-use Rattle.farm_nodes_stored.specs.Read.{IsKeptPart}
-use Rattle.farm_nodes_function_rooms.specs.Kept.{AreSettled}
-use Rattle.farm_nodes_seated.specs.Refused.{HasBadRecord, HasRefusedOffer, IsRoomUnopened}
-use Rattle.farm_nodes_seated.specs.declared.fault.OpenFault.{OpenFault}
-use Rattle.farm_nodes_seated.specs.declared.fault.OpenFault.TheVariants as open_fault
+use Rattle.farm_nodes_open_seats.specs.Nodes.{AreMade}
+use Rattle.farm_nodes_open_seats.specs.Read.{IsKeptPart}
+use Rattle.farm_nodes_open_seats.specs.Kept.{AreSettled}
+use Rattle.farm_nodes_open_seats.specs.Refused.{HasBadRecord, HasRefusedOffer, IsRoomUnopened}
+use Rattle.farm_nodes_open_seats.specs.declared.fault.OpenFault.{OpenFault}
+use Rattle.farm_nodes_open_seats.specs.declared.fault.OpenFault.TheVariants as open_fault
 use Rattle.cfarm_output.specs.Begun.{IsBegun}
 use Rattle.cfarm_fsck_journals.specs.declared.files.NodeFiles.{NodeFiles}
 use Rattle.cfarm_fsck.specs.declared.error.FsckError.{FsckError}

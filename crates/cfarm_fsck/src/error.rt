@@ -1,4 +1,4 @@
-use farm_nodes_seated::OpenFault;
+use farm_nodes_open_seats::OpenFault;
 
 /// Why a folder is not told.
 #[derive(Clone, Copy, Debug, PartialEq, Eq)]

@@ -1,12 +1,12 @@
 //! The journals of all nodes.
 
 ghost use Rattle.std.specs.Prelude.{◌≡◌, length, IfOk, IfErr};
-ghost use Rattle.farm_nodes_disks.specs.Journals.{header_of};
+ghost use Rattle.farm_nodes_open_journals.specs.Journals.{header_of};
 ghost use Rattle.cfarm_fsck.specs.Folder.{AreJournalsIn, IsNoOther, IsOfRefusedFile};
 
 use acceptor_log_form::{Header, Record};
 use cfarm_fsck_journals::{NodeFiles, journal_of};
-use farm_nodes_seated::OpenFault;
+use farm_nodes_open_seats::OpenFault;
 use paxos_core_world::quorum::Quorums;
 use std::alloc::Global;
 

@@ -2,7 +2,7 @@
 
 ghost use Rattle.std.specs.Prelude.{◌≡◌, IfOk};
 ghost use Rattle.paxos_core_world.specs.World.{nodes_of};
-ghost use Rattle.farm_nodes_function_rooms.specs.Kept.{kept_of};
+ghost use Rattle.farm_nodes_open_seats.specs.Kept.{kept_of};
 
 use lang_base::NoMemory;
 use paxos_core_world::kept::Kept;

@@ -6,9 +6,9 @@ ghost use Rattle.cfarm_fsck.specs.Printed.{Prints};
 ghost use Rattle.cfarm_fsck.specs.Telling.{folder_lines, four_lines, journal_line, last_lines, node_lines, rest_of_room, room_line, room_lines, two_lines};
 
 use crate::error::FsckError;
+use crate::lines::{node_line, room_rest};
 use crate::parts::room_parts;
 use acceptor_log_form::Record;
-use cfarm_fsck_lines::{node_line, room_rest};
 use cfarm_output::{print_all, print_whole};
 use lang_base::{Named, NoMemory};
 use paxos_core_world::kept::Kept;

@@ -6,7 +6,7 @@ use Rattle.acceptor_log_form.specs.declared.record.Record.{Record}
 use Rattle.acceptor_log_form.specs.declared.errors.LogError.{LogError}
 use Rattle.acceptor_log_form.specs.Text.{blocks, header_size, StandsFor}
 use Rattle.acceptor_log_form.specs.Fault.{HasFault}
-use Rattle.acceptor_log_migrated.specs.Migrated.{migrated}
+use Rattle.acceptor_log_old.specs.Migrated.{migrated}
 use Rattle.acceptor_log_migrating.specs.Stands.{CanMigrate, IsNotMigrated}
 
 -- neither file has bytes: there is no journal yet

@@ -9,8 +9,8 @@ ghost use Rattle.acceptor_log_migrating.specs.Stands.{IsNotMigrated};
 ghost use Rattle.cfarm_fsck_journals.specs.Listed.{AreListedIn, AreRefusedIn, HasSize, IsSizeOf, WereMigrated};
 
 use crate::files::NodeFiles;
-use acceptor_log_form::{Header, LogError, Record, one_list, text_stands};
 use acceptor_log::{Listed, read};
+use acceptor_log_form::{Header, LogError, Record, one_list, text_stands};
 use acceptor_log_translating::translate;
 use std::alloc::Global;
 

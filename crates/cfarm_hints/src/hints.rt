@@ -2,10 +2,8 @@
 
 ghost use Rattle.std.specs.Prelude.{◌≡◌, ◌&&◌, [], false, string_bytes};
 
-use cfarm_explaining::explanation;
 use cfarm_output::Paced;
-use cfarm_runs::{CommandError, sentence_of};
-use c_texts::TextError;
+use cfarm_run::{CommandError, TextError, explanation, sentence_of};
 use lang_base::Shown;
 use std::alloc::Global;
 use std::io::Write;

@@ -5,5 +5,6 @@
 mod differing;
 mod hints;
 
+pub use cfarm_run::TextError;
 pub use differing::difference_of;
 pub use hints::{explained, is_amid, of_depth, of_limit, of_text};

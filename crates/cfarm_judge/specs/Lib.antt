@@ -5,3 +5,4 @@ pub mod Passes
 pub mod Passing
 pub mod Told
 pub mod Under
+pub use Rattle.bundle_offers.specs.declared.fault.OfferFault

@@ -8,13 +8,13 @@ use Rattle.linear_language.specs.Function as linear
 use Rattle.rtl_passes_facts.specs.Certificates as facts
 use Rattle.constprop_check_rules.specs.Rules.{propagation, IsPropagated}
 use Rattle.cse_check_rules.specs.Rules.{elimination, IsEliminated}
-use Rattle.alloc_check_filled.specs.Allocated.{IsAllocated}
-use Rattle.alloc_check_laws.specs.Text as allocation
+use Rattle.alloc_check_proof.specs.Allocated.{IsAllocated}
+use Rattle.alloc_check_proof.specs.Text as allocation
 use Rattle.linearize_check_proof.specs.Rules.{IsLaidOut}
 use Rattle.linearize_check.specs.OrderForm as order
-use Rattle.chains.specs.Lent.{OfConstants, OfExpressions, OfAllocation, OfOrder}
+use Rattle.bundle_offers.specs.Lent.{OfConstants, OfExpressions, OfAllocation, OfOrder}
 use Rattle.bundle_offers.specs.Reasons.{WhyFirst, WhySecond, WhyThird, WhyFourth}
-use Rattle.bundle_reading.specs.Texts.{first_text, second_text, third_text, fourth_text}
+use Rattle.bundle_offers.specs.Texts.{first_text, second_text, third_text, fourth_text}
 use Rattle.bundle_offers.specs.declared.fault.PassNumber.{PassNumber}
 use Rattle.bundle_offers.specs.declared.fault.PassNumber.TheVariants.{First, Second, Third, Fourth}
 use Rattle.cfarm_judge.specs.Passing.{IsNotPassed, IsPassed}

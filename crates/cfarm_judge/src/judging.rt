@@ -8,8 +8,7 @@ ghost use Rattle.cfarm_judge.specs.Passing.{IsNotPassedBy, IsPassedBy};
 
 use crate::error::{JudgeError, told};
 use crate::passes::pass_of;
-use alloc_check::Alloc;
-use bundle_offers::{PassNumber, PassReasons, Reasons, stands};
+use bundle_offers::{Alloc, PassNumber, PassReasons, Reasons, stands};
 use constprop_check::ConstProp;
 use cse_check::Cse;
 use lang_base::Pass;

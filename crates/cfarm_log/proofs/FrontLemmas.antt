@@ -5,7 +5,7 @@ use Rattle.std.proofs.lemmas.Bool.{eqb-false, eqb-true}
 use Rattle.std.proofs.lemmas.List.{length-append, nil_from_length}
 use Rattle.acceptor_log_form.specs.declared.record.Record.{Record}
 use Rattle.acceptor_log_form.specs.Text.{blocks}
-use Rattle.acceptor_log_old_form.proofs.Plain.{plain-more}
+use Rattle.acceptor_log_old.proofs.Plain.{plain-more}
 use Rattle.cfarm_log.specs.declared.version.Version.{Version}
 use Rattle.cfarm_log.specs.declared.version.Version.TheVariants.{Old, New}
 use Rattle.cfarm_log.specs.Forms.{all_had, has_version}

@@ -5,9 +5,9 @@ use Rattle.std.proofs.lemmas.Bool.{eq-eqb}
 use Rattle.std.proofs.lemmas.List.{length-drop, take_all}
 use Rattle.acceptor_log_form.specs.declared.header.Header.{Header}
 use Rattle.acceptor_log_form.specs.Fault.{magic, IsNotInForm}
-use Rattle.acceptor_log_old_form.specs.OldText.{belong_to_first}
-use Rattle.acceptor_log_old_form.specs.OldFault.{first_magic, second_magic, tells_first_sizes}
-use Rattle.acceptor_log_old_form.proofs.OldHeaders.{text-first, text-second, length-old_header_text}
+use Rattle.acceptor_log_old.specs.OldText.{belong_to_first}
+use Rattle.acceptor_log_old.specs.OldFault.{first_magic, second_magic, tells_first_sizes}
+use Rattle.acceptor_log_old.proofs.OldHeaders.{text-first, text-second, length-old_header_text}
 use Rattle.cfarm_log.specs.declared.version.Version.TheVariants.{Old}
 use Rattle.cfarm_log.specs.Heads.{IsHead}
 

@@ -5,8 +5,8 @@ use Rattle.acceptor_log_form.specs.declared.record.Record.{Record}
 use Rattle.acceptor_log_form.specs.declared.errors.LogError.{LogError}
 use Rattle.acceptor_log_form.specs.Text.{header_size, header_text, StandsFor}
 use Rattle.acceptor_log_form.specs.Fault.{IsInForm, HasFault}
-use Rattle.acceptor_log_old_form.specs.OldText.{old_header_size, old_header_text, is_plain, are_plain, OldStandsFor}
-use Rattle.acceptor_log_old_form.specs.OldFault.{IsInOldForm, HasOldFault}
+use Rattle.acceptor_log_old.specs.OldText.{old_header_size, old_header_text, is_plain, are_plain, OldStandsFor}
+use Rattle.acceptor_log_old.specs.OldFault.{IsInOldForm, HasOldFault}
 use Rattle.cfarm_log.specs.declared.version.Version.{Version}
 use Rattle.cfarm_log.specs.declared.version.Version.TheVariants.{Old, New}
 

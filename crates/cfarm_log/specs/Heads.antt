@@ -4,7 +4,7 @@ use Rattle.acceptor_log_form.specs.declared.header.Header.{Header}
 use Rattle.acceptor_log_form.specs.declared.errors.LogError.TheVariants.{BadRecord, NotAJournal, OtherSource}
 use Rattle.acceptor_log_form.specs.declared.errors.LogError.{LogError}
 use Rattle.acceptor_log_form.specs.Fault.{IsNotInForm}
-use Rattle.acceptor_log_old_form.specs.OldFault.{IsInNoOldForm, HasOldFault}
+use Rattle.acceptor_log_old.specs.OldFault.{IsInNoOldForm, HasOldFault}
 use Rattle.cfarm_log.specs.declared.version.Version.{Version}
 use Rattle.cfarm_log.specs.declared.head.HeadFault.{HeadFault}
 use Rattle.cfarm_log.specs.declared.head.HeadFault.TheVariants as head

@@ -7,7 +7,7 @@ use Rattle.acceptor_log_form.specs.declared.errors.LogError.{LogError}
 use Rattle.acceptor_log_form.specs.declared.errors.LogError.TheVariants as log
 use Rattle.acceptor_log_form.specs.Text.{blocks}
 use Rattle.acceptor_log_form.specs.Fault.{IsNotInForm}
-use Rattle.acceptor_log_old_form.specs.OldFault.{IsInNoOldForm, HasOldFault}
+use Rattle.acceptor_log_old.specs.OldFault.{IsInNoOldForm, HasOldFault}
 use Rattle.cfarm_output.specs.Begun.{IsBegun}
 use Rattle.cfarm_log_lines.specs.Lines.{end_line, head_line, record_lines}
 use Rattle.cfarm_log.specs.declared.version.Version.{Version}

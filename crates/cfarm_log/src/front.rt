@@ -6,7 +6,7 @@ ghost use Rattle.cfarm_log.specs.Forms.{has_version};
 ghost use Rattle.cfarm_log.specs.Fronts.{HasFront, record_had};
 
 use crate::version::Version;
-use acceptor_log_blocks::{behind_open, read_first};
+use acceptor_log::{behind_open, read_first};
 use acceptor_log_form::{LogError, Record};
 use lang_base::NoMemory;
 use std::alloc::Global;

@@ -2,13 +2,13 @@
 
 ghost use Rattle.std.specs.Prelude.{◌≡◌, ◌≤◌, ◌++◌, ◌∷◌, [], length, take, IfOk, IfErr};
 ghost use Rattle.acceptor_log_form.specs.Fault.{magic};
-ghost use Rattle.acceptor_log_old_form.specs.OldFault.{first_magic, second_magic};
+ghost use Rattle.acceptor_log_old.specs.OldFault.{first_magic, second_magic};
 ghost use Rattle.cfarm_log.specs.Heads.{HasNoHead, IsHead};
 
 use crate::version::Version;
 use acceptor_log::begins_with;
 use acceptor_log_form::Header;
-use acceptor_log_old_form::{belongs_to_first, even_nodes};
+use acceptor_log_old::{belongs_to_first, even_nodes};
 
 /// A journal's header, and what stands behind it.
 #[derive(Clone, Copy)]

@@ -1,10 +1,17 @@
-//! What a build is asked for beside its text, and the files that it has in its folder.
+//! What a command is asked for, in types that the words of the command line and the commands share: the options of a build and the files in
+//! its folder, the forms that `emit` writes, and where a user sees how far a build is and what it did not use.
 #![tactic(auto)]
 
+mod emitted;
+mod ignored;
+mod meter;
 mod names;
 mod options;
 mod paths;
 
+pub use emitted::Emitted;
+pub use ignored::Ignored;
+pub use meter::Meter;
 pub use names::is_taken;
 pub use options::{AskedSizes, BuildOptions, Nodes, Optimise};
 pub use paths::{journal_path, linked_path, offer_path, old_journal_path};

@@ -3,9 +3,9 @@
 ghost use Rattle.std.specs.Prelude.{◌≡◌, ◌≤◌, OnOk, OnErr, IfOk, IfErr, length, take};
 ghost use Rattle.std.specs.Io.KnownBytes.{Appends, Keeps};
 ghost use Rattle.cfarm_output.specs.Begun.{IsBegun};
-ghost use Rattle.lang_parts.specs.declared.error.RunError.TheVariants as RunError;
+ghost use Rattle.lang_helpers.specs.declared.error.RunError.TheVariants as RunError;
 
-use lang_parts::{Answer, RunError, meaning};
+use lang_helpers::{Answer, RunError, meaning};
 use std::io::Write;
 
 /// Offers the writer bytes: how many of the first were printed, none where a signal came between.

@@ -1,14 +1,14 @@
 -- Each status of a build is at most 7.
 use Rattle.std.specs.Prelude.{ℕ, zero, suc, ◌≤◌}
 use Rattle.std.proofs.Common.{arith}
-use Rattle.cfarm_build_faults.specs.Statuses.{unless_memory}
-use Rattle.cfarm_build_faults.specs.declared.error.BuildError.TheVariants as B
-use Rattle.cfarm_build_folder.specs.Answers as building
-use Rattle.cfarm_build_folder.specs.declared.error.BuildingError.{BuildingError}
-use Rattle.cfarm_build_folder.specs.declared.error.BuildingError.TheVariants as G
-use Rattle.farm_nodes.specs.Numbers.{disks_number_of}
-use Rattle.farm_nodes_offers.specs.Halted as halts
-use Rattle.farm_nodes_source.specs.Told as texts
+use Rattle.cfarm_fsck_files.specs.Statuses.{unless_memory}
+use Rattle.cfarm_fsck_files.specs.BuildError.TheVariants as B
+use Rattle.cfarm_build.specs.Answers as building
+use Rattle.cfarm_build.specs.BuildingError.{BuildingError}
+use Rattle.cfarm_build.specs.BuildingError.TheVariants as G
+use Rattle.cfarm_fsck_files.specs.Numbers.{disks_number_of}
+use Rattle.farm_nodes_turn_offer.specs.Halted as halts
+use Rattle.cfarm_fsck_files.specs.Told as texts
 
 unless : (n status : ℕ) → status ≤ 7 → unless_memory n status ≤ 7
 unless zero status small = small

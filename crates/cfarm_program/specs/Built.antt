@@ -2,15 +2,15 @@
 use Rattle.std.specs.Prelude.{◌≡◌, ◌⊎◌, List, Option, None, Some, ℕ, false, true, option_copied}
 use Rattle.cfarm_files.specs.Placing.{Keeps}
 use Rattle.cfarm_files.specs.declared.fault.FileFault.TheVariants.{Refused}
-use Rattle.cfarm_build_folder.specs.Answers as building
-use Rattle.cfarm_build_folder.specs.declared.error.BuildingError.{BuildingError}
-use Rattle.cfarm_build_folder.specs.Changed.{Changed}
-use Rattle.cfarm_build_files.specs.Done.{HasBuilt, IsNotBuilt}
-use Rattle.cfarm_build_files.specs.declared.farm.Farm as farms
+use Rattle.cfarm_build.specs.Answers as building
+use Rattle.cfarm_build.specs.BuildingError.{BuildingError}
+use Rattle.cfarm_build.specs.Changed.{Changed}
+use Rattle.cfarm_build.specs.Done.{HasBuilt, IsNotBuilt}
+use Rattle.cfarm_build.specs.declared.farm.Farm as farms
 use Rattle.cfarm_options.specs.Names.{is_given_taken, is_taken}
 use Rattle.cfarm_options.specs.declared.options.BuildOptions.{BuildOptions}
-use Rattle.cfarm_telling.specs.Reading.{Coming, unread}
-use Rattle.cfarm_telling.specs.Telling.{Answer, quiet, told}
+use Rattle.cfarm_program_status.specs.Reading.{Coming, unread}
+use Rattle.cfarm_program_status.specs.Telling.{Answer, quiet, told}
 
 abbrev pub building_fault : BuildingError → Answer
 building_fault fault = told (building.status_of fault) (building.building_line fault)

@@ -7,28 +7,28 @@ use Rattle.cfarm_files.specs.Placing.{Keeps}
 use Rattle.cfarm_files.specs.Reading.{IsKnownAs}
 use Rattle.cfarm_files.specs.declared.fault.FileFault.{FileFault}
 use Rattle.cfarm_files.specs.declared.files.Files as filing
-use Rattle.cfarm_build_folder.specs.Changed.{Changed}
-use Rattle.cfarm_build_files.specs.declared.farm.Farm as farms
+use Rattle.cfarm_build.specs.Changed.{Changed}
+use Rattle.cfarm_build.specs.declared.farm.Farm as farms
 use Rattle.cfarm_options.specs.Sizes.{sizes_line}
 use Rattle.cfarm_options.specs.declared.options.AskedSizes.{AskedSizes}
 use Rattle.cfarm_options.specs.declared.options.BuildOptions.{BuildOptions}
-use Rattle.cfarm_command_parts.specs.declared.task.FsckOptions.{FsckOptions}
-use Rattle.cfarm_command_parts.specs.declared.task.Task.{Task}
-use Rattle.cfarm_command_parts.specs.declared.task.Task.TheVariants.{Check, Interpret, Build, Exec, Settle, Simulate, Show, Verify, Emit, Judge, Fsck}
-use Rattle.cfarm_command_parts.specs.declared.task.Task.TheVariants as task
-use Rattle.cfarm_telling.specs.Reading.{Coming, unread}
-use Rattle.cfarm_telling.specs.Telling.{Answer, IsTold, told}
-use Rattle.cfarm_looking.specs.Showing.{Texted}
-use Rattle.cfarm_looking.specs.Listing.{Listed}
-use Rattle.cfarm_looking.specs.Verifying.{Verified}
-use Rattle.cfarm_looking.specs.Emitting.{Formed}
-use Rattle.cfarm_looking.specs.Judging.{Judged}
-use Rattle.cfarm_folder.specs.Asked.{asked_quorums}
-use Rattle.cfarm_folder.specs.Saying.{LookedOver, Tells}
+use Rattle.cfarm_command_line_others.specs.declared.task.FsckOptions.{FsckOptions}
+use Rattle.cfarm_command_line_others.specs.declared.task.Task.{Task}
+use Rattle.cfarm_command_line_others.specs.declared.task.Task.TheVariants.{Check, Interpret, Build, Exec, Settle, Simulate, Show, Verify, Emit, Judge, Fsck}
+use Rattle.cfarm_command_line_others.specs.declared.task.Task.TheVariants as task
+use Rattle.cfarm_program_status.specs.Reading.{Coming, unread}
+use Rattle.cfarm_program_status.specs.Telling.{Answer, IsTold, told}
+use Rattle.cfarm_program_looks.specs.Showing.{Texted}
+use Rattle.cfarm_program_looks.specs.Listing.{Listed}
+use Rattle.cfarm_program_looks.specs.Verifying.{Verified}
+use Rattle.cfarm_program_looks.specs.Emitting.{Formed}
+use Rattle.cfarm_program_looks.specs.Judging.{Judged}
+use Rattle.cfarm_fsck_files.specs.Asked.{asked_quorums}
+use Rattle.cfarm_fsck_files.specs.Saying.{LookedOver, Tells}
 use Rattle.cfarm_program.specs.Met.{AreMet, IsUnmet}
-use Rattle.cfarm_outcomes.specs.Explained.{is_explained}
-use Rattle.cfarm_outcomes.specs.Outcomes.{Checked, Executed, Interpreted, Settled, Simulated}
-use Rattle.cfarm_outcomes.specs.Saying.{Explains}
+use Rattle.cfarm_program_runs.specs.Explained.{is_explained}
+use Rattle.cfarm_program_runs.specs.Outcomes.{Checked, Executed, Interpreted, Settled, Simulated}
+use Rattle.cfarm_program_runs.specs.Saying.{Explains}
 use Rattle.cfarm_program.specs.Built.{Builds, BuildsApart}
 
 -- the answer where quorums of these sizes need not meet

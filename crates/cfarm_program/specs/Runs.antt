@@ -7,13 +7,13 @@ use Rattle.clap.specs.declared.error.kind.ErrorKind.TheVariants.{DisplayHelp, Di
 use Rattle.cfarm_output.specs.Errors.{ErrorsHeld, HasFailed}
 use Rattle.cfarm_output.specs.declared.errors.ErrorLines as lines
 use Rattle.cfarm_output.specs.declared.paced.Paced.{Paced}
-use Rattle.cfarm_build_folder.specs.Changed.{Changed}
-use Rattle.cfarm_build_files.specs.declared.farm.Farm as farms
-use Rattle.cfarm_command_parts.specs.declared.choices.Choices.{Choices}
-use Rattle.cfarm_command_parts.specs.declared.task.Task.{Task}
+use Rattle.cfarm_build.specs.Changed.{Changed}
+use Rattle.cfarm_build.specs.declared.farm.Farm as farms
+use Rattle.cfarm_command_line_others.specs.declared.choices.Choices.{Choices}
+use Rattle.cfarm_command_line_others.specs.declared.task.Task.{Task}
 use Rattle.cfarm_program.specs.Performed.{KeepsFiles, RunsTask}
-use Rattle.cfarm_telling.specs.Telling.{Answer, IsTold, no_memory, told, unwritten}
-use Rattle.cfarm_command_parts.specs.Words.{AreChoices, Asks, AsksNothing, farm as program}
+use Rattle.cfarm_program_status.specs.Telling.{Answer, IsTold, no_memory, told, unwritten}
+use Rattle.cfarm_command_line_others.specs.Words.{AreChoices, Asks, AsksNothing, farm as program}
 
 -- the words of the command line are not text
 abbrev pub no_text : Answer

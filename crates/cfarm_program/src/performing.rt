@@ -1,24 +1,22 @@
 //! The commands, with what each tells.
 
 ghost use Rattle.std.specs.Prelude.{◌≡◌, ◌≤◌, false, true, IfSome, IsNone, Some, option_copied};
-ghost use Rattle.cfarm_build_files.specs.Compiled.{quorums_of};
+ghost use Rattle.cfarm_build.specs.Compiled.{quorums_of};
 ghost use Rattle.paxos_core_world.specs.Quorum.{AreQuorums};
-ghost use Rattle.cfarm_folder.specs.Asked.{asked_quorums};
+ghost use Rattle.cfarm_fsck_files.specs.Asked.{asked_quorums};
 ghost use Rattle.cfarm_options.specs.Names.{is_given_taken, is_taken};
 ghost use Rattle.cfarm_program.specs.Met.{AreMet};
 ghost use Rattle.cfarm_program.specs.Performed.{Built, BuiltApart, Does, Looks};
 
-use cfarm_build_files::{Farm, build_text, quorums_of};
-use cfarm_build_folder::of_build;
-use cfarm_command_parts::{FsckOptions, Task};
+use cfarm_build::{Farm, build_text, of_build, quorums_of};
+use cfarm_command_line_others::{FsckOptions, Task};
 use cfarm_files::{FileFault, Files};
-use cfarm_folder::{asked_quorums, look_through};
-use cfarm_looking::{emit_form, judge_offer, list_records, show_text, verify_files};
-use cfarm_meter::Meter;
-use cfarm_options::{BuildOptions, is_taken};
-use cfarm_outcomes::{check, lay_out, play, run_bytes, run_text};
+use cfarm_fsck_files::{asked_quorums, look_through};
+use cfarm_options::{BuildOptions, Meter, is_taken};
 use cfarm_output::{ErrorLines, Paced};
-use cfarm_telling::{tell_among, tell_unread};
+use cfarm_program_looks::{emit_form, judge_offer, list_records, show_text, verify_files};
+use cfarm_program_runs::{check, lay_out, play, run_bytes, run_text};
+use cfarm_program_status::{tell_among, tell_unread};
 use rooms_hall::{Hall, Naming};
 use std::alloc::Global;
 use std::io::Write;

@@ -2,17 +2,17 @@
 
 ghost use Rattle.std.specs.Prelude.{◌≤◌};
 ghost use Rattle.clap.specs.Words.{kind_of};
-ghost use Rattle.cfarm_telling.specs.Telling.{IsTold};
+ghost use Rattle.cfarm_program_status.specs.Telling.{IsTold};
 ghost use Rattle.cfarm_program.specs.Runs.{IsHelp, IsHelped, IsMistake, Runs, TellsMemory, TellsMistake, no_text};
 
 use crate::running::run_task;
-use cfarm_build_files::Farm;
+use cfarm_build::Farm;
 use cfarm_command_line::asked_for;
-use cfarm_command_parts::offered;
+use cfarm_command_line_others::offered;
 use cfarm_files::Files;
-use cfarm_meter::Meter;
+use cfarm_options::Meter;
 use cfarm_output::{ErrorLines, Paced, Unwritten};
-use cfarm_telling::{UNWRITTEN, tell, tell_no_memory};
+use cfarm_program_status::{UNWRITTEN, tell, tell_no_memory};
 use clap::error::ErrorKind;
 use rooms_hall::{Hall, Naming};
 use std::alloc::Global;

@@ -1,15 +1,15 @@
 -- What the calls of a seat leave of its room.
 use Rattle.std.proofs.Common.{◌≡◌, ℕ, List, Option, Some, None, IfSome, refl, sym, ap, ◌∙◌, subst}
 use Rattle.offers.specs.declared.parts.Parts.{Parts}
-use Rattle.paxos_core_law.specs.declared.step.Step.{Step}
+use Rattle.paxos_core_node_steps.specs.declared.step.Step.{Step}
 use Rattle.rooms_cells.specs.Seen.{SightOf, names_of, value_at}
-use Rattle.rooms_rule.specs.declared.acceptor.AcceptorWord.{AcceptorWord}
-use Rattle.rooms_rule.specs.declared.proposer.ProposerWord.{ProposerWord}
-use Rattle.rooms_rule.specs.declared.view.View.{View}
-use Rattle.rooms_state.specs.declared.act.Act.{Act}
-use Rattle.rooms_state.specs.Did.{Did, LookedAtAcceptor, LookedAtProposer, NotesOf}
-use Rattle.rooms_state.specs.SeatState.{SeatState}
-use Rattle.rooms_state.specs.Would.{would, act_of, proposed_by_step, Acted}
+use Rattle.rooms_words.specs.declared.acceptor.AcceptorWord.{AcceptorWord}
+use Rattle.rooms_words.specs.declared.proposer.ProposerWord.{ProposerWord}
+use Rattle.rooms_words.specs.declared.view.View.{View}
+use Rattle.rooms_seat_state.specs.declared.act.Act.{Act}
+use Rattle.rooms_seat_state.specs.Did.{Did, LookedAtAcceptor, LookedAtProposer, NotesOf}
+use Rattle.rooms_seat_state.specs.SeatState.{SeatState}
+use Rattle.rooms_seat_state.specs.Would.{would, act_of, proposed_by_step, Acted}
 use Rattle.rooms_seat.specs.Meeting.{Remains}
 use Rattle.rooms.specs.SeatValue.{SeatValue, offer_of}
 use Rattle.cfarm_settle_nodes.specs.Goes.{IsSameSeat, OffersFor, GoesOn, SeesNoMore}

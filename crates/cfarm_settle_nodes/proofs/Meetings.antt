@@ -1,16 +1,16 @@
 -- Three seats that have met have learned one value in one run.
 use Rattle.std.proofs.Common.{◌≡◌, ℕ, List, Option, Some, None, IfSome, refl, sym, ap, ◌∙◌, subst}
 use Rattle.paxos_core_world.specs.World.{World, Has}
-use Rattle.paxos_core_law.proofs.WorldLemmas.{grows_by}
-use Rattle.rooms_rule.specs.declared.event.Event.{Event}
-use Rattle.rooms_rule.specs.declared.view.Opening.{Opening}
-use Rattle.rooms_rule.specs.Events.{labels_of}
-use Rattle.rooms_rule.specs.Views.{world_after, BeginsWith, IsLegal}
-use Rattle.rooms_rule.proofs.RunLemmas.{world_after-append, begins_through}
+use Rattle.paxos_core_node_steps.proofs.WorldLemmas.{grows_by}
+use Rattle.rooms_words.specs.declared.event.Event.{Event}
+use Rattle.rooms_words.specs.declared.view.Opening.{Opening}
+use Rattle.rooms_words.specs.Events.{labels_of}
+use Rattle.rooms_words.specs.Views.{world_after, BeginsWith, IsLegal}
+use Rattle.rooms_words.proofs.RunLemmas.{world_after-append, begins_through}
 use Rattle.rooms_seat.specs.Meeting.{meeting_of, HaveMet, IsKnown}
 use Rattle.rooms_seat.specs.declared.meeting.Meeting.{Meeting}
 use Rattle.rooms_seat.specs.declared.meeting.Meeting.TheVariants.{Neither, One, Same}
-use Rattle.rooms_state.specs.SeatState.{SeatState}
+use Rattle.rooms_seat_state.specs.SeatState.{SeatState}
 use Rattle.cfarm_settle_nodes.specs.Goes.{empty_room}
 use Rattle.cfarm_settle_nodes.specs.Learned.{AreSame, IsLearnedByAll}
 

@@ -4,8 +4,8 @@ use Rattle.std.specs.Prelude.{⊤}
 use Rattle.std.specs.List.{AllByRecursion, AllZip}
 use Rattle.offers.specs.declared.parts.Parts.{Parts}
 use Rattle.rooms.specs.SeatValue.{SeatValue}
-use Rattle.farm_nodes_rounds.specs.After.{After}
-use Rattle.farm_nodes_workers.specs.Taken.{HasTaken}
+use Rattle.farm_nodes_threads_pace.specs.After.{After}
+use Rattle.farm_nodes_threads_teams.specs.Taken.{HasTaken}
 use Rattle.cfarm_settle_nodes.specs.Goes.{AreSeatsFor, GoesOn}
 use Rattle.cfarm_settle_nodes.specs.Nodes.{AreNodes, HasTurned}
 use Rattle.cfarm_settle_nodes.proofs.Going.{goes_nowhere, goes_through}

@@ -7,8 +7,8 @@ use Rattle.offers.specs.declared.parts.Parts.{Parts}
 use Rattle.paxos_core_world.specs.KeptPart.{KeptPart}
 use Rattle.paxos_core_world.specs.Quorum.{Sizes}
 use Rattle.rooms_cells.specs.Seen.{unseen, value_at}
-use Rattle.rooms_rule.specs.declared.view.Opening.{Opening}
-use Rattle.rooms_state.specs.SeatState.{opening_of}
+use Rattle.rooms_words.specs.declared.view.Opening.{Opening}
+use Rattle.rooms_seat_state.specs.SeatState.{opening_of}
 use Rattle.rooms.specs.Opened.{AreOpened, opened, opened_first}
 use Rattle.rooms.specs.SeatValue.{SeatValue, offer_of}
 use Rattle.cfarm_settle_nodes.specs.Goes.{AllOfferFor, OffersFor}

@@ -5,8 +5,8 @@ use Rattle.offers.specs.declared.parts.Parts.{Parts}
 use Rattle.rooms_cells.specs.Seen.{names_of}
 use Rattle.paxos_core_world.specs.KeptPart.{nothing_kept}
 use Rattle.paxos_core_world.specs.Quorum.{majority_sizes}
-use Rattle.rooms_rule.specs.declared.view.Opening.{Opening}
-use Rattle.rooms_state.specs.SeatState.{SeatState}
+use Rattle.rooms_words.specs.declared.view.Opening.{Opening}
+use Rattle.rooms_seat_state.specs.SeatState.{SeatState}
 use Rattle.rooms.specs.SeatValue.{SeatValue, offer_of}
 
 -- how a room of three nodes opens that have kept nothing: both quorums are more than half of them

@@ -1,6 +1,6 @@
 -- When a node leads its room.
 use Rattle.std.specs.Prelude.{ℕ, nat_le, Bool, false, Option, Some, None}
-use Rattle.paxos_core_law.specs.NodeState.{NodeState}
+use Rattle.paxos_core_node_steps.specs.NodeState.{NodeState}
 
 -- the ballot, if there is one, is not below the other
 abbrev pub is_not_below : Option ℕ → ℕ → Bool

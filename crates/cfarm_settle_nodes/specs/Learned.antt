@@ -1,8 +1,8 @@
 -- What three nodes have learned together.
 use Rattle.std.specs.Prelude.{◌≡◌, ℕ, List}
 use Rattle.paxos_core_world.specs.World.{Has}
-use Rattle.rooms_rule.specs.declared.event.Event.{Event}
-use Rattle.rooms_rule.specs.Views.{world_after, IsLegal}
+use Rattle.rooms_words.specs.declared.event.Event.{Event}
+use Rattle.rooms_words.specs.Views.{world_after, IsLegal}
 use Rattle.rooms_seat.specs.declared.meeting.Meeting.{Meeting}
 use Rattle.rooms_seat.specs.declared.meeting.Meeting.TheVariants.{Same}
 use Rattle.cfarm_settle_nodes.specs.Goes.{empty_room}

@@ -5,8 +5,8 @@ ghost use Rattle.cfarm_settle_nodes.specs.Goes.{AreThree, SeesNoMore};
 ghost use Rattle.cfarm_settle_nodes.specs.Learned.{AreSame, IsLearnedByAll};
 
 use lang_base::Pass;
-use rooms_seat::Meeting;
 use rooms::{Seat, meet};
+use rooms_seat::Meeting;
 
 /// The value that all meetings told.
 fn same(first: Meeting, second: Meeting, third: Meeting) -> Option<u8>

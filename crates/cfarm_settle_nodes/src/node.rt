@@ -11,8 +11,8 @@ use lang_base::{Language, NoMemory, Oracle, Pass, PassError};
 use offers::Offer;
 use rand_core::utils::NextWord;
 use rand_pcg::Pcg32;
-use rooms_cells::Put;
 use rooms::Seat;
+use rooms_cells::Put;
 use std::alloc::Global;
 use std::sync::Arc;
 

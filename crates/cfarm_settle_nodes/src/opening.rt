@@ -7,7 +7,8 @@ ghost use Rattle.cfarm_settle_nodes.specs.Nodes.{AreAll};
 
 use crate::settle_node::SettleNode;
 use lang_base::{Language, NoMemory, Oracle, Pass};
-use paxos_core_world::{kept::Kept, quorum::Quorums};
+use paxos_core_world::kept::Kept;
+use paxos_core_world::quorum::Quorums;
 use rooms::{Room, Seat};
 use std::alloc::{AllocError, Global};
 

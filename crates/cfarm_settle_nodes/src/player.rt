@@ -2,8 +2,8 @@
 
 use lang_base::Oracle;
 use rand_pcg::Pcg32;
-use rooms_rule::acceptor::AcceptorWord;
-use rooms_rule::proposer::ProposerWord;
+use rooms_words::acceptor::AcceptorWord;
+use rooms_words::proposer::ProposerWord;
 
 /// What a node has for its turns beside its seat. No contract speaks of it: it decides what is proposed, and when.
 #[derive(Drop)]

@@ -12,7 +12,7 @@ use Rattle.c_program.specs.Trees.{ProgramTree}
 use Rattle.c_checker_rules.specs.Units.{program_of}
 use Rattle.cminor_lowering.specs.Programs.{low}
 use Rattle.cminor_syntax.specs.Trees.{FunctionTree}
-use Rattle.rtlgen.specs.Refused.{IsFirstTooLarge}
+use Rattle.cfarm_verify_reading.specs.Refused.{IsFirstTooLarge}
 use Rattle.rtlgen_definition.specs.Gen.{gen, gen_named}
 use Rattle.rtl_language.specs.Function as rtl
 use Rattle.linear_language.specs.Function as linear

@@ -4,7 +4,7 @@ use Rattle.std.specs.Prelude.{slice_get}
 use Rattle.std.specs.List.{AllByRecursion}
 use Rattle.lang_base.specs.Texts.{EachFits}
 use Rattle.lang_base.specs.declared.program.Named.{Named}
-use Rattle.c_lexer_parts.specs.Lexemes.{IsName}
+use Rattle.c_lexer_lexemes.specs.Lexemes.{IsName}
 use Rattle.lang.specs.Form.{FunctionFits}
 use Rattle.linker.specs.Chains.{names_of}
 

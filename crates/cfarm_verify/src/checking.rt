@@ -3,7 +3,7 @@
 ghost use Rattle.std.specs.Prelude.{◌≡◌, ◌<◌, ◌↔◌, IsTrue, length, OnOk, IfErr};
 ghost use Rattle.std.specs.List.{AllByRecursion};
 ghost use Rattle.lang_base.specs.Keeps.{Keeps};
-ghost use Rattle.c_lexer_parts.specs.Lexemes.{IsName};
+ghost use Rattle.c_lexer_lexemes.specs.Lexemes.{IsName};
 ghost use Rattle.linear_language.specs.Meaning as linear;
 ghost use Rattle.rtl_language.specs.Meaning as rtl;
 ghost use Rattle.linker.specs.Chains.{names_of};
@@ -14,8 +14,8 @@ ghost use Rattle.cfarm_verify.specs.Checked.{AreChecked, IsFaulty, IsNamedFault,
 use crate::error::VerifyError;
 use crate::linking::links_to;
 use crate::naming::name_of;
-use bundle_reading::Four;
 use bundle_offers::{OfferFault, first_fault, judge_all};
+use bundle_reading::Four;
 use cfarm_verify_comparing::same_names;
 use lang_base::{Named, NoMemory, Program};
 use linear_language::Function;

@@ -10,6 +10,7 @@ mod linking;
 mod naming;
 mod verifying;
 
+pub use cfarm_verify_reading::{Forms, prepared, read_forms};
 pub use error::VerifyError;
 pub use line::VerifyLine;
 pub use verifying::verify;

@@ -3,8 +3,8 @@
 ghost use Rattle.std.specs.Prelude.{◌≡◌};
 
 use crate::error::VerifyError;
-use cfarm_output::FormLine;
 use bundle_offers::OfferFault;
+use cfarm_output::FormLine;
 use lang_base::{Fault, FormError};
 use std::fmt;
 

@@ -3,7 +3,7 @@
 ghost use Rattle.std.specs.Prelude.{◌≡◌, ◌<◌, length, OnOk, IfErr};
 ghost use Rattle.std.specs.List.{AllByRecursion};
 ghost use Rattle.lang_base.specs.Keeps.{Keeps};
-ghost use Rattle.c_lexer_parts.specs.Lexemes.{IsName};
+ghost use Rattle.c_lexer_lexemes.specs.Lexemes.{IsName};
 ghost use Rattle.linear_language.specs.Meaning as linear;
 ghost use Rattle.rtl_language.specs.Meaning as rtl;
 ghost use Rattle.linker.specs.Chains.{names_of};

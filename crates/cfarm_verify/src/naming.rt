@@ -1,7 +1,7 @@
 ghost use Rattle.std.specs.Prelude.{◌≡◌, ◌<◌, length, slice_get, Some, IfOk};
 ghost use Rattle.std.specs.List.{AllByRecursion};
 ghost use Rattle.std.specs.String.{string_bytes};
-ghost use Rattle.c_lexer_parts.specs.Lexemes.{IsName};
+ghost use Rattle.c_lexer_lexemes.specs.Lexemes.{IsName};
 ghost use Rattle.linker.specs.Chains.{names_of};
 
 use farm_nodes_source::text_of;

@@ -15,12 +15,11 @@ ghost use Rattle.cfarm_verify.specs.Told.{HasVerified, IsTold, IsVerified, IsWan
 
 use crate::checking::checked;
 use crate::error::VerifyError;
-use cfarm_output::print_whole;
+use bundle_offers::{JudgedBundle, OfferFault};
 use bundle_reading::{Four, one_bundle};
-use bundle_offers::OfferFault;
+use cfarm_output::print_whole;
 use cfarm_verify_comparing::put_fours_away;
 use cfarm_verify_reading::Forms;
-use bundle_offers::JudgedBundle;
 use farm_nodes_source::{Source, SourceFault};
 use lang::one_program;
 use lang_base::{Program, keeps_composes};

@@ -15,10 +15,10 @@ use Rattle.linear_language.specs.Function as linear
 use Rattle.linear_language.specs.Meaning as linear_meaning
 use Rattle.constprop_check_rules.specs.Rules.{IsPropagated}
 use Rattle.cse_check_rules.specs.Rules.{IsEliminated}
-use Rattle.alloc_check_filled.specs.Allocated.{IsAllocated}
+use Rattle.bundle_reading.specs.Allocated.{IsAllocated}
 use Rattle.linearize_check_proof.specs.Rules.{IsLaidOut}
-use Rattle.chains.specs.declared.offering.Offers.{Offers}
-use Rattle.chains.specs.Offered.{ends_of, linked_offers}
+use Rattle.bundle_reading.specs.Offers.{Offers}
+use Rattle.bundle_reading.specs.Offered.{ends_of, linked_offers}
 use Rattle.bundle_reading.specs.declared.four.Four.{Four}
 use Rattle.bundle_reading.specs.Read.{offers_in, offers_of}
 use Rattle.bundle_offers.specs.Standing.{AllStand, Stand}

@@ -3,8 +3,8 @@ use Rattle.std.proofs.Common.{◌≡◌, ℕ, zero, suc, ◌<◌, ◌≤◌, Lis
 use Rattle.lang_base.specs.declared.program.Named.{Named}
 use Rattle.rtl_language.specs.Function as rtl
 use Rattle.linear_language.specs.Function as linear
-use Rattle.linker.specs.Chains.{names_of}
-use Rattle.chains.specs.Offered.{ends_of}
+use Rattle.bundle_reading.specs.Chains.{names_of}
+use Rattle.bundle_reading.specs.Offered.{ends_of}
 use Rattle.bundle_reading.specs.declared.four.Four.{Four}
 use Rattle.bundle_reading.specs.Read.{offers_in}
 

@@ -2,7 +2,7 @@
 use Rattle.rtl_language.specs.Function as rtl
 use Rattle.ltl.specs.Function as ltl
 use Rattle.linear_language.specs.Function as linear
-use Rattle.chains.specs.declared.offering.Offers.{Offers}
+use Rattle.bundle_reading.specs.Offers.{Offers}
 
 pub record AreInRange (offers : Offers) : Type 0 where
   pub first : rtl.IsFunction offers.constants.input

@@ -1,8 +1,8 @@
 //! Whether two programs are one.
 
 ghost use Rattle.std.specs.Prelude.{◌≡◌, ◌↔◌, IsTrue, length};
-ghost use Rattle.linker.specs.Chains.{names_of};
-ghost use Rattle.chains.specs.Offered.{ends_of};
+ghost use Rattle.bundle_reading.specs.Chains.{names_of};
+ghost use Rattle.bundle_reading.specs.Offered.{ends_of};
 ghost use Rattle.bundle_reading.specs.Read.{offers_in};
 ghost use Rattle.cfarm_verify_comparing.specs.Compared.{TellsFirstOther};
 

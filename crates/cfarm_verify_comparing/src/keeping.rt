@@ -4,13 +4,12 @@ ghost use Rattle.std.specs.Prelude.{All};
 ghost use Rattle.lang_base.specs.Keeps.{Keeps};
 ghost use Rattle.linear_language.specs.Meaning as linear;
 ghost use Rattle.rtl_language.specs.Meaning as rtl;
-ghost use Rattle.chains.specs.Offered.{linked_offers};
+ghost use Rattle.bundle_reading.specs.Offered.{linked_offers};
 ghost use Rattle.bundle_reading.specs.Read.{offers_in, offers_of};
 ghost use Rattle.bundle_offers.specs.Standing.{AllStand};
 ghost use Rattle.cfarm_verify_comparing.specs.Ranges.{AreInRange};
 
-use alloc_check::Alloc;
-use bundle_reading::Four;
+use bundle_reading::{Alloc, Four};
 use constprop_check::ConstProp;
 use cse_check::Cse;
 use lang_base::{Language, Program, keeps_all};

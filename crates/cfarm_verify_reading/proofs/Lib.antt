@@ -1,1 +1,4 @@
+pub mod Few
+pub mod Made
+pub mod Pieces
 mod Digests

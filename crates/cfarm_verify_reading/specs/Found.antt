@@ -13,8 +13,8 @@ use Rattle.cminor_lowering.specs.Programs.{low}
 use Rattle.rtlgen_definition.specs.Gen.{gen}
 use Rattle.rtl_language.specs.Function.{IsFunction}
 use Rattle.rtl_language.specs.Meaning.{run}
-use Rattle.bundle_reading.specs.Read.{offers_in}
-use Rattle.bundle_reading.specs.Texts.{HasNoBundle, IsBundleOf}
+use Rattle.bundle_offers.specs.Read.{offers_in}
+use Rattle.bundle_offers.specs.Texts.{HasNoBundle, IsBundleOf}
 use Rattle.bundle_offers.specs.Standing.{AreAlone}
 use Rattle.bundle_offers.specs.declared.judged_bundle.JudgedBundle.{JudgedBundle}
 use Rattle.cfarm_verify_reading.specs.Spelled.{IsNoProgram, IsSpelled}

@@ -1,2 +1,5 @@
+pub mod Lowered
+pub mod Made
 pub mod Found
 pub mod Spelled
+pub use Rattle.rtlgen.specs.Refused

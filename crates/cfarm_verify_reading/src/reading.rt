@@ -1,7 +1,7 @@
 ghost use Rattle.std.specs.Prelude.{◌≡◌, ◌≢◌, ◌<◌, IfOk, IfErr};
-ghost use Rattle.bundle_reading.specs.Read.{offers_in};
+ghost use Rattle.bundle_offers.specs.Read.{offers_in};
 ghost use Rattle.bundle_offers.specs.Standing.{AreAlone};
-ghost use Rattle.bundle_reading.specs.Texts.{HasNoBundle, IsBundleOf};
+ghost use Rattle.bundle_offers.specs.Texts.{HasNoBundle, IsBundleOf};
 ghost use Rattle.sha2.specs.Sha256.{sha256};
 ghost use Rattle.cfarm_verify_reading.specs.Found.{AreSpelled};
 ghost use Rattle.cfarm_verify_reading.specs.Spelled.{IsNoProgram, IsSpelled};
@@ -10,11 +10,11 @@ use crate::forms::Forms;
 use bundle_offers::{JudgedBundle, read_judged};
 use lang::{one_program, read_program};
 use lang_base::{FormError, Program};
+use lang_helpers::grow_arena;
 use linear_language::{Function, Linear};
 use sha2::{Digest, Sha256};
 use std::alloc::Global;
 use std::thread::{Threads, available_parallelism, join};
-use thread_memory::make_room;
 
 /// The program of Linear that all of the bytes spell.
 fn read_linear(alloc: Global, bytes: &[u8]) -> Result<Program<Function>, FormError>
@@ -22,7 +22,7 @@ fn read_linear(alloc: Global, bytes: &[u8]) -> Result<Program<Function>, FormErr
     ensures refused { IfErr result (λ fault. fault ≢ FormError.NoMemory → IsNoProgram bytes.now) }
 {
     one_program::<Linear>();
-    make_room(alloc);
+    grow_arena(alloc);
     let (program, length) = read_program::<Linear>(alloc, bytes)?;
     if length < bytes.len() {
         return Err(FormError::NotCanonical);

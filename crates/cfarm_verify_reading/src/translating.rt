@@ -12,8 +12,8 @@ ghost use Rattle.rtl_language.specs.Meaning as rtl;
 ghost use Rattle.rtlgen_definition.specs.Gen.{gen};
 ghost use Rattle.farm_nodes_source.specs.Refused.{IsNamed, IsUntranslated};
 
+use crate::programs::translated;
 use c_checker_rules::CProgram;
-use cfarm_verify_lowering::translated;
 use cminor::lower;
 use cminor_program_ranges::same_head_fits;
 use farm_nodes_source::{SourceFault, name_of};

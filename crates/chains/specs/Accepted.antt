@@ -1,8 +1,8 @@
 -- Four offers that their passes accept.
-use Rattle.constprop_check_rules.specs.Rules.{IsPropagated}
-use Rattle.cse_check_rules.specs.Rules.{IsEliminated}
-use Rattle.alloc_check_filled.specs.Allocated.{IsAllocated}
-use Rattle.linearize_check_proof.specs.Rules.{IsLaidOut}
+use Rattle.linker.specs.ConstpropCheckRules.{IsPropagated}
+use Rattle.linker.specs.Rules.{IsEliminated}
+use Rattle.linker.specs.Allocated.{IsAllocated}
+use Rattle.linker.specs.LinearizeCheckRules.{IsLaidOut}
 use Rattle.chains.specs.declared.offering.Offers.{Offers}
 
 -- each pass accepts its offer

@@ -5,10 +5,10 @@ use Rattle.offers.specs.declared.parts.Parts.{Parts}
 use Rattle.rtl_language.specs.Function as rtl
 use Rattle.ltl.specs.Function as ltl
 use Rattle.linear_language.specs.Function as linear
-use Rattle.rtl_passes_marks.specs.declared.row.NodeRow.{NodeRow}
-use Rattle.constprop_check_rules.specs.declared.fact.Fact.{Fact}
-use Rattle.cse_check_rules.specs.declared.equation.Equation as cse
-use Rattle.alloc_check_rules.specs.declared.equation.Equation as alloc
+use Rattle.linker.specs.NodeRow.{NodeRow}
+use Rattle.linker.specs.Fact.{Fact}
+use Rattle.linker.specs.Equation as cse
+use Rattle.linker.specs.AllocCheckRulesEquation as alloc
 use Rattle.linker.specs.declared.chain.Chain as linking_chain
 use Rattle.linker.specs.declared.chain.Named as linking_named
 use Rattle.chains.specs.declared.offering.Offers.{Offers}

@@ -2,3 +2,14 @@ pub mod Accepted
 pub mod Lent
 pub mod Offered
 pub mod Unlinked
+pub use Rattle.linker.specs.Chains
+pub use Rattle.linker.specs.Right
+pub use Rattle.linker.specs.Text
+pub use Rattle.linker.specs.Allocated
+pub use Rattle.linker.specs.Order
+pub use Rattle.linker.specs.Rules
+pub use Rattle.linker.specs.AllocCheckRulesEquation
+pub use Rattle.linker.specs.Refused
+pub use Rattle.linker.specs.RtlgenRefused
+pub use Rattle.linker.specs.declared.errors.LinkError
+pub use Rattle.linker.specs.OrderForm

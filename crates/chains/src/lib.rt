@@ -5,5 +5,8 @@
 mod linking;
 mod offering;
 
+pub use linker::{
+    Alloc, Chain, Cse, EquationLists, Linearize, LinkError, Named, link, translated, why,
+};
 pub use linking::link_offers;
 pub use offering::Offers;

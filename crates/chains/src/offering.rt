@@ -2,11 +2,7 @@
 
 ghost use Rattle.chains.specs.Lent.{IsLent};
 
-use constprop_check::ConstProp;
-use cse_check::Cse;
-use linearize_check::Linearize;
-use alloc_check::Alloc;
-use linker::Chain;
+use linker::{Alloc, Chain, ConstProp, Cse, Linearize};
 use offers::Offer;
 
 /// The four offers of a function, one for each pass. Whether each goes on from the one before it, the

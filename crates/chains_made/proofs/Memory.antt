@@ -4,7 +4,7 @@ use Rattle.lang_base.specs.declared.program.Program.{Program}
 use Rattle.lang_base.specs.declared.errors.PassError.{PassError}
 use Rattle.lang_base.specs.declared.errors.PassError.TheVariants.{NoMemory, TooManyRegisters}
 use Rattle.cminor_syntax.specs.Trees.{FunctionTree}
-use Rattle.linker.specs.Refused.{HasNoTranslation}
+use Rattle.chains.specs.Refused.{HasNoTranslation}
 use Rattle.chains_made.specs.declared.errors.CompileError.{CompileError}
 use Rattle.chains_made.specs.declared.errors.CompileError.TheVariants.{Link, Pass}
 use Rattle.chains_made.specs.Refused.{IsNoMemory, IsRefused}

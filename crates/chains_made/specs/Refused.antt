@@ -3,9 +3,9 @@ use Rattle.std.specs.Prelude.{◌≡◌}
 use Rattle.lang_base.specs.declared.program.Program.{Program}
 use Rattle.lang_base.specs.declared.errors.PassError.TheVariants as pass
 use Rattle.cminor_syntax.specs.Trees.{FunctionTree}
-use Rattle.linker.specs.declared.errors.LinkError.{LinkError}
-use Rattle.linker.specs.declared.errors.LinkError.TheVariants as link
-use Rattle.linker.specs.Refused.{HasNoTranslation}
+use Rattle.chains.specs.LinkError.{LinkError}
+use Rattle.chains.specs.LinkError.TheVariants as link
+use Rattle.chains.specs.Refused.{HasNoTranslation}
 use Rattle.chains_made.specs.declared.errors.CompileError.{CompileError}
 use Rattle.chains_made.specs.declared.errors.CompileError.TheVariants.{Link, Pass}
 

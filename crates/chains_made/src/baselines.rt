@@ -1,11 +1,11 @@
 //! What each pass makes with no choice, exactly.
 
+use alloc_check::Alloc;
 use constprop_check::{ConstProp, FactLists};
 use cse_check::Cse;
 use lang_base::{Pass, PassError};
 use linearize_check::{Linearize, Order};
-use alloc_check::Alloc;
-use offers_choice::Baselines;
+use offers::Baselines;
 use std::alloc::Global;
 
 /// The baselines of the four passes, each as its pass defines it.
@@ -45,7 +45,7 @@ impl Baselines<Alloc> for ExactBaselines {
     fn made(
         alloc: Global,
         input: &rtl_language::Function,
-    ) -> Result<(ltl::Function, alloc_check_verdict::EquationLists), PassError> {
+    ) -> Result<(ltl::Function, alloc_check::EquationLists), PassError> {
         Alloc::baseline(alloc, input)
     }
 }

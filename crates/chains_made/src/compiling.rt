@@ -4,12 +4,12 @@ ghost use Rattle.c_program.specs.Meaning.{crun};
 ghost use Rattle.c_checker_rules.specs.Checked.{program_tree};
 ghost use Rattle.cminor_lowering.specs.Programs.{low};
 ghost use Rattle.rtlgen_definition.specs.Gen.{gen};
-ghost use Rattle.rtlgen.specs.Refused.{HasFewNodes};
+ghost use Rattle.chains.specs.RtlgenRefused.{HasFewNodes};
 ghost use Rattle.cminor_program_ranges.specs.Names.{HaveNames};
 ghost use Rattle.lang.specs.Form.{IsProgram};
 ghost use Rattle.linear_language.specs.Function.{IsFunction};
 ghost use Rattle.linear_language.specs.Meaning as linear;
-ghost use Rattle.linker.specs.Chains.{HasNamesOf};
+ghost use Rattle.chains.specs.Chains.{HasNamesOf};
 ghost use Rattle.chains.specs.Accepted.{AreAccepted};
 ghost use Rattle.chains_made.specs.Baselines.{AreBaselines};
 ghost use Rattle.chains_made.specs.Compiled.{IsBaselineProgram, IsCompiled};
@@ -19,12 +19,11 @@ ghost use Rattle.chains_made.specs.Refused.{IsNoMemory, IsRefused};
 
 use crate::errors::CompileError;
 use crate::makers::{Maker, offers_of};
-use chains::Offers;
 use c_checker_rules::CProgram;
+use chains::{Offers, link_offers, translated};
+use cminor_program_ranges::same_head_fits;
 use lang_base::{Named, Program, keeps_composes};
 use linear_language::{Function, Linear};
-use linker::translated;
-use cminor_program_ranges::same_head_fits;
 use std::alloc::Global;
 
 /// The offers of each function that the maker makes, in order: their passes accept them, and they chain from the functions on.

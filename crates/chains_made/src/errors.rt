@@ -1,5 +1,5 @@
+use chains::LinkError;
 use lang_base::{NoMemory, PassError};
-use linker::LinkError;
 use std::alloc::{AllocError, AllocFailed};
 use std::fmt;
 
@@ -47,7 +47,7 @@ impl From<PassError> for CompileError {
 
 impl From<NoMemory> for CompileError {
     ghost use Rattle.std.specs.Prelude.{◌≡◌};
-    ghost use Rattle.linker.specs.declared.errors.LinkError.TheVariants.{NoMemory};
+    ghost use Rattle.chains.specs.LinkError.TheVariants.{NoMemory};
     ghost use Rattle.chains_made.specs.declared.errors.CompileError.TheVariants.{Link};
 
     ghost from_gives = { λ _ e. e ≡ Link NoMemory };
@@ -59,7 +59,7 @@ impl From<NoMemory> for CompileError {
 
 impl From<AllocError> for CompileError {
     ghost use Rattle.std.specs.Prelude.{◌≡◌};
-    ghost use Rattle.linker.specs.declared.errors.LinkError.TheVariants.{NoMemory};
+    ghost use Rattle.chains.specs.LinkError.TheVariants.{NoMemory};
     ghost use Rattle.chains_made.specs.declared.errors.CompileError.TheVariants.{Link};
 
     ghost from_gives = { λ _ e. e ≡ Link NoMemory };
@@ -71,7 +71,7 @@ impl From<AllocError> for CompileError {
 
 impl<T: Drop> From<AllocFailed<T>> for CompileError {
     ghost use Rattle.std.specs.Prelude.{◌≡◌};
-    ghost use Rattle.linker.specs.declared.errors.LinkError.TheVariants.{NoMemory};
+    ghost use Rattle.chains.specs.LinkError.TheVariants.{NoMemory};
     ghost use Rattle.chains_made.specs.declared.errors.CompileError.TheVariants.{Link};
 
     ghost from_gives = { λ _ e. e ≡ Link NoMemory };

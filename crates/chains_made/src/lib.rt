@@ -8,6 +8,7 @@ mod errors;
 mod makers;
 
 pub use baselines::ExactBaselines;
+pub use chains::{Chain, LinkError, Named, Offers, link, translated};
 pub use compiling::{all_offers, compile};
 pub use errors::CompileError;
 pub use makers::Maker;

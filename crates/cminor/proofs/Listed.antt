@@ -5,8 +5,8 @@ use Rattle.c_program.specs.Views.{action_tree, actions_tree}
 use Rattle.cminor_syntax.specs.Trees as T
 use Rattle.cminor_syntax.specs.Views.{statement_tree, statements_tree}
 use Rattle.cminor_syntax.specs.declared.statement.Statement.{Statement}
-use Rattle.cminor_form.specs.Reading.{sequence_of}
-use Rattle.cminor_codec.proofs.Rows.{statements_named}
+use Rattle.cminor_language.specs.Reading.{sequence_of}
+use Rattle.cminor_language.proofs.Rows.{statements_named}
 use Rattle.cminor_lowering.specs.Actions.{low_action, low_actions}
 
 actions_named : (spare : ℕ) (actions : List Action) → sequence_of (map (λ a. low_action spare (action_tree a)) actions) ≡ low_actions spare (actions_tree actions)

@@ -4,7 +4,7 @@ use Rattle.std.specs.Prelude.{is_some, codes, ◌&&◌}
 use Rattle.std.specs.Str.{bytes_eq}
 use Rattle.std.proofs.lemmas.Slice.Eq.{bytes_eq-Decides}
 use Rattle.lang_base.specs.declared.program.Named.{Named}
-use Rattle.machine.specs.Frames.{main_number}
+use Rattle.cminor_syntax.specs.Frames.{main_number}
 use Rattle.c_checker_scopes.specs.Bound.{Bound, found}
 use Rattle.c_checker_scopes.proofs.Laws.{found-same, found-other}
 use Rattle.c_syntax.specs.Trees.{DeclarationTree, UnitTree}

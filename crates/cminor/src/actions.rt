@@ -14,7 +14,7 @@ use crate::values::lower_given;
 use c_program::Action;
 use cminor_syntax::Statement;
 use lang_base::NoMemory;
-use lang_parts::beside;
+use lang_helpers::beside;
 use std::alloc::Global;
 
 /// Where a sequence is in range, so is each of what it does.

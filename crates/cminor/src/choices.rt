@@ -7,7 +7,7 @@ ghost use Rattle.cminor.specs.Parts.{choice_tree};
 
 use cminor_syntax::Expression;
 use lang_base::NoMemory;
-use lang_parts::beside;
+use lang_helpers::beside;
 use std::alloc::Global;
 
 /// An expression in a box.

@@ -7,11 +7,11 @@ ghost use Rattle.cminor_lowering.specs.Actions.{two, update};
 ghost use Rattle.cminor.specs.Parts.{three_tree, turn_tree, turns_tree};
 
 use crate::choices;
-use cminor_codec::sequence;
+use cminor_language::sequence;
 use cminor_syntax::{Expression, Statement};
 use ints::Op;
 use lang_base::NoMemory;
-use lang_parts::beside;
+use lang_helpers::beside;
 use std::alloc::Global;
 
 /// A statement in a box.

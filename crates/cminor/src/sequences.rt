@@ -5,7 +5,7 @@ ghost use Rattle.cminor_syntax.specs.Fits.{statement_count};
 ghost use Rattle.cminor_syntax.specs.Views.{statement_tree, statements_tree};
 ghost use Rattle.cminor_lowering.specs.Sequences.{gathered, most_statements, pieces, sequence};
 
-use cminor_codec::sequence;
+use cminor_language::sequence;
 use cminor_syntax::Statement;
 use lang_base::NoMemory;
 use std::alloc::Global;

@@ -10,7 +10,7 @@ use crate::choices::{boxed, choice, truth};
 use c_program::Term;
 use cminor_syntax::Expression;
 use lang_base::NoMemory;
-use lang_parts::beside;
+use lang_helpers::beside;
 use std::alloc::Global;
 
 /// The expression that a term stands for, in a box.

@@ -8,7 +8,7 @@ use crate::parts::{boxed, read_variable};
 use cminor_syntax::Expression;
 use ints::Op;
 use lang_base::{FormError, read_byte, read_u32};
-use lang_parts::{beside, read_global};
+use lang_helpers::{beside, read_global};
 use std::alloc::Global;
 
 /// A node for which no fuel is left.

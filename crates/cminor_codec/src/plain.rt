@@ -9,7 +9,7 @@ use crate::expressions::read_expression;
 use crate::parts::{read_target, read_variable};
 use cminor_syntax::{Expression, Statement};
 use lang_base::{FormError, Row, read_byte, read_u16};
-use lang_parts::{beside, read_function_number, read_global};
+use lang_helpers::{beside, read_function_number, read_global};
 use std::alloc::Global;
 
 /// A variable, and the value that it becomes.

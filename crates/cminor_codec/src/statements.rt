@@ -14,7 +14,7 @@ use crate::parts::boxed;
 use crate::plain::read_plain;
 use cminor_syntax::Statement;
 use lang_base::{FormError, read_byte, read_u32};
-use lang_parts::beside;
+use lang_helpers::beside;
 use std::alloc::Global;
 
 /// No statement is higher.

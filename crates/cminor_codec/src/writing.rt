@@ -12,7 +12,7 @@ ghost use Rattle.cminor_codec.specs.Parts.{returned_text, count_text, stored_tex
 
 use cminor_syntax::{Expression, Statement};
 use lang_base::{NoMemory, push_byte, push_u16, push_u32};
-use lang_parts::{WriteOne, push_each as push_each_of};
+use lang_helpers::{WriteOne, push_each as push_each_of};
 
 /// The first byte of an expression.
 fn code_of_expression(expression: &Expression) -> u8

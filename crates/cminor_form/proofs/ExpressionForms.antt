@@ -6,8 +6,8 @@ use Rattle.lang_base.specs.Reading.{Reading, byte, decoded, both, follow, unknow
 use Rattle.lang_base.proofs.Forms.{IsForm}
 use Rattle.lang_base.proofs.Parts.{byte_form, number16_form, number32_form, made_takes, made_again, made_form, decoded_form, fits_form, below_form, both_form}
 use Rattle.lang_base.proofs.Lists.{HasCode, TakesBehind, unknown_takes, follow_form, coded_form}
-use Rattle.lang_parts.specs.Limits.{global}
-use Rattle.lang_parts.proofs.Limits.{global_form}
+use Rattle.lang_helpers.specs.Limits.{global}
+use Rattle.lang_helpers.proofs.Limits.{global_form}
 use Rattle.ints.specs.declared.operators.Op.{Op}
 use Rattle.ints.specs.Codes.{code_of, op_of_code, argument_count_of}
 use Rattle.ints.proofs.Codes.{codes_lead_back}

@@ -12,8 +12,8 @@ use Rattle.lang_base.proofs.Parts.{byte_form, number16_form, number32_form, made
 use Rattle.lang_base.proofs.Lists.{counted_form, each_fits, fits_each, HasCode, TakesBehind, unknown_takes, follow_form, coded_form, optional_form, tagged_form}
 use Rattle.machine.specs.Fits.{parameter_limit}
 use Rattle.machine.specs.Spelling.{byte_text}
-use Rattle.lang_parts.specs.Limits.{global, function_number}
-use Rattle.lang_parts.proofs.Limits.{global_form, function_number_form}
+use Rattle.lang_helpers.specs.Limits.{global, function_number}
+use Rattle.lang_helpers.proofs.Limits.{global_form, function_number_form}
 use Rattle.cminor_syntax.specs.Trees.{ExpressionTree, StatementTree, StatementsTree, FunctionTree, Skip, Assign, Store, Call, Put, Sequence, If, Loop, Block, Exit, Return, Done, First}
 use Rattle.cminor_syntax.specs.Fits.{ExpressionFits, MaybeFits, TargetFits, statement_count, StatementFits, StatementsFit, arguments_height, maybe_height, statement_height, statements_height, global_limit, function_limit, variable_limit, height_limit, IsFunction}
 use Rattle.cminor_form.specs.Spelling.{expression_text, target_text, arguments_text, statement_text, statements_text, frame_text, spelling}

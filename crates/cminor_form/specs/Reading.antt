@@ -4,7 +4,7 @@ use Rattle.std.specs.Int.{w16, w32}
 use Rattle.lang_base.specs.declared.errors.FormError.{FormError}
 use Rattle.lang_base.specs.declared.errors.FormError.TheVariants.{NotCanonical, TooLarge}
 use Rattle.lang_base.specs.Reading.{Reading, ◌>>=◌, byte, number, made, tested, decoded, below, up_to, both, counted, Table, follow, unknown, coded, optional, tagged}
-use Rattle.lang_parts.specs.Limits.{global, function_number}
+use Rattle.lang_helpers.specs.Limits.{global, function_number}
 use Rattle.ints.specs.declared.operators.Op.{Op}
 use Rattle.ints.specs.Codes.{op_of_code, argument_count_of}
 use Rattle.machine.specs.Fits.{parameter_limit}

@@ -7,7 +7,7 @@ use crate::function::Function;
 use cminor_codec::sequence;
 use cminor_syntax::{Expression, Statement};
 use lang_base::{NoMemory, Row};
-use lang_parts::beside;
+use lang_helpers::beside;
 use std::alloc::Global;
 
 #[cycle(expressions)]

@@ -2,7 +2,7 @@ use crate::copying::copy_function;
 use crate::function::Function;
 use crate::reading::{push_function, read_function};
 use lang_base::{FormError, Language, NoMemory};
-use lang_parts::{Form, read_front, write_whole};
+use lang_helpers::{Form, read_front, write_whole};
 use std::alloc::Global;
 
 /// Cminor, the first language of the pipeline.
@@ -38,7 +38,7 @@ impl Form for Cminor {
 impl Language for Cminor {
     ghost use Rattle.std.specs.Prelude.{◌≡◌, ◌≢◌, ◌≤◌, ℕ, List, ◌++◌, length, take, true, ◌↔◌, OnOk, OnErr, IfOk, IfErr};
     ghost use Rattle.lang_base.proofs.Forms.{one_text};
-    ghost use Rattle.lang_parts.proofs.Equal.{tells_decides};
+    ghost use Rattle.lang_helpers.proofs.Equal.{tells_decides};
     ghost use Rattle.cminor_syntax.specs.Fits.{IsFunction};
     ghost use Rattle.cminor_syntax.specs.Growth.{runs_on};
     ghost use Rattle.cminor_syntax.specs.Meaning.{run};

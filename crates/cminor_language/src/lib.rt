@@ -9,5 +9,6 @@ mod language;
 mod reading;
 mod same;
 
+pub use cminor_codec::sequence;
 pub use function::Function;
 pub use language::Cminor;

@@ -10,7 +10,7 @@ use crate::function::Function;
 use cminor_codec::{push_statement, read_body, read_frame};
 use cminor_syntax::Statement;
 use lang_base::{FormError, NoMemory, push_byte, push_u16, read_byte};
-use lang_parts::are_bytes;
+use lang_helpers::are_bytes;
 use std::alloc::Global;
 
 /// The numbers of parameters and of variables, and the body.

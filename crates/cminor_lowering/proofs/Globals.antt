@@ -2,7 +2,7 @@
 use Rattle.std.proofs.Common.{◌≡◌, ℕ, zero, suc, List, [], ◌∷◌, map, refl, sym, ap, ◌∙◌}
 use Rattle.c_program.specs.declared.function.GlobalVariable.{GlobalVariable}
 use Rattle.c_program.specs.Meaning as C
-use Rattle.machine.specs.Frames.{cells_of}
+use Rattle.cminor_syntax.specs.Frames.{cells_of}
 use Rattle.cminor_lowering.specs.Programs.{listed, without_zeros, low_global}
 
 -- so many cells that begin with these words

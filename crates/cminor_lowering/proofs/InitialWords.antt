@@ -7,7 +7,7 @@ use Rattle.ints.specs.declared.wrong.CWrong.{CWrong}
 use Rattle.ints.specs.CTable.{c_table}
 use Rattle.ints.specs.MachineTable.{machine_table}
 use Rattle.ints.proofs.Agree.{machine_table-c_table}
-use Rattle.machine.specs.Acts.{pair_of}
+use Rattle.cminor_syntax.specs.Acts.{pair_of}
 use Rattle.c_program.specs.Trees.{TermTree}
 use Rattle.c_program.specs.Trees as T
 use Rattle.c_program.specs.Values.{computed, cell_of, on_one, on_two, truth, both, either, chosen}

@@ -3,7 +3,7 @@ use Rattle.std.specs.Prelude.{◌≡◌, ℕ, zero, suc, List, [], ◌∷◌, So
 use Rattle.lang_base.specs.declared.program.Global.{Global}
 use Rattle.lang_base.specs.declared.program.Named.{Named}
 use Rattle.lang_base.specs.declared.program.Program.{Program}
-use Rattle.machine.specs.Frames.{main_number}
+use Rattle.cminor_syntax.specs.Frames.{main_number}
 use Rattle.c_program.specs.declared.action.Target.TheVariants.{Caller}
 use Rattle.c_program.specs.declared.function.Ending.{Ending}
 use Rattle.c_program.specs.declared.function.Ending.TheVariants as E

@@ -3,7 +3,7 @@ use Rattle.std.proofs.Common.{◌≡◌, ℕ, suc, ◌+◌, ◌<◌, ◌≤◌, 
 use Rattle.std.specs.Prelude.{not, ◌&&◌, ◌||◌, nat_lt}
 use Rattle.std.specs.List.{AllByRecursion}
 use Rattle.std.proofs.lemmas.Bool.{ltb-true, and_parts}
-use Rattle.machine.proofs.Distinct.{all_append}
+use Rattle.cminor_syntax.proofs.Distinct.{all_append}
 use Rattle.c_syntax.specs.declared.constant.IntegerType.{IntegerType}
 use Rattle.c_checker_scopes.specs.Bound.{Bound, found}
 use Rattle.c_syntax.specs.declared.identifier.Identifier.{Identifier}

@@ -10,3 +10,4 @@ pub mod Files
 pub mod Functions
 pub mod Programs
 pub mod Rows
+pub use Rattle.cminor_syntax.proofs.Distinct

@@ -5,7 +5,7 @@ use Rattle.std.specs.Prelude.{if◌then◌else◌, slice_get, ◌==◌}
 use Rattle.std.specs.List.{AllByRecursion}
 use Rattle.std.specs.Str.{bytes_eq}
 use Rattle.std.proofs.lemmas.Bool.{eqb-true}
-use Rattle.machine.specs.Fits.{parameter_limit}
+use Rattle.cminor_syntax.specs.MachineFits.{parameter_limit}
 use Rattle.c_checker_scopes.specs.Bound.{Bound, found}
 use Rattle.c_syntax.specs.Trees.{ExpressionTree, CallTree, ValueTree}
 use Rattle.c_syntax.specs.Trees as T

@@ -3,10 +3,10 @@ use Rattle.std.proofs.Common.{◌≡◌, ◌≢◌, ℕ, suc, ◌<◌, ◌≤◌
 use Rattle.std.specs.Prelude.{not, ◌&&◌, ◌||◌, ◌==◌}
 use Rattle.std.specs.List.{AllByRecursion}
 use Rattle.std.proofs.lemmas.Bool.{eqb-true, leb-true, and_parts}
-use Rattle.machine.proofs.Distinct.{all_append}
+use Rattle.cminor_lowering_ranges.proofs.Distinct.{all_append}
 use Rattle.lang_base.specs.declared.program.Named.{Named}
 use Rattle.lang_base.specs.Texts.{EachFits}
-use Rattle.c_lexer_parts.specs.Lexemes.{IsName}
+use Rattle.c_lexer_lexemes.specs.Lexemes.{IsName}
 use Rattle.c_checker_scopes.specs.Bound.{Bound, found}
 use Rattle.c_program.specs.Trees as C
 use Rattle.c_syntax.specs.declared.identifier.Identifier.{Identifier}

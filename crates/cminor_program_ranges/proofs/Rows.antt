@@ -1,7 +1,7 @@
 -- Rows in memory, and what is known of all in them.
 use Rattle.std.proofs.Common.{ℕ, zero, suc, List, [], ◌∷◌, map, get_or, arith, All}
 use Rattle.std.specs.List.{AllByRecursion}
-use Rattle.c_lexer_parts.specs.Lexemes.{IsName}
+use Rattle.c_lexer_lexemes.specs.Lexemes.{IsName}
 use Rattle.c_program.specs.declared.function.Function.{Function}
 use Rattle.c_program.specs.Views.{function_tree}
 

@@ -4,8 +4,8 @@ use Rattle.std.specs.List.{AllByRecursion}
 use Rattle.c_syntax.specs.declared.token.Token.{Token}
 use Rattle.c_syntax.specs.declared.token.TokenKind.{TokenKind}
 use Rattle.c_syntax.specs.declared.token.TokenKind.TheVariants as kinds
-use Rattle.c_lexer_parts.specs.Lexemes.{IsName, Spells}
-use Rattle.c_lexer_parts.specs.Parts.{IsPart}
+use Rattle.c_lexer_lexemes.specs.Lexemes.{IsName, Spells}
+use Rattle.c_lexer_lexemes.specs.Parts.{IsPart}
 use Rattle.c_lexer.specs.Texts.{Part, bytes_of, AreParts, token_of, tokens_of, HasTokens}
 
 -- a token that is a name

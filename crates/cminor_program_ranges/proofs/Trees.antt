@@ -8,7 +8,7 @@ use Rattle.c_syntax.specs.Trees.{FunctionTree, DeclarationTree, UnitTree}
 use Rattle.c_syntax.specs.Trees as T
 use Rattle.c_syntax.specs.Parts as parts
 use Rattle.c_syntax.specs.Declarations.{IsDeclaration, AreDeclarations, IsUnit}
-use Rattle.c_lexer_parts.specs.Lexemes.{IsName}
+use Rattle.c_lexer_lexemes.specs.Lexemes.{IsName}
 use Rattle.c_lexer.specs.Texts.{HasTokens}
 use Rattle.c_checker_rules.specs.Units.{File, empty_file, behind, naming, bodies_of, functions_from, program_of}
 use Rattle.cminor_program_ranges.specs.Names.{HaveNames}

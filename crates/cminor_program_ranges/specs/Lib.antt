@@ -1,2 +1,3 @@
 pub mod Heads
 pub mod Names
+pub use Rattle.lang.specs.Form

@@ -9,5 +9,6 @@ mod names;
 mod words;
 
 pub use accepted::accepted_has_names;
+pub use cminor_lowering_ranges::lowered_fits;
 pub use fitting::lowered_program_fits;
 pub use laws::same_head_fits;

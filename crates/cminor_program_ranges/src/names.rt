@@ -1,7 +1,7 @@
 //! Whether the functions of a program have C names.
 
 ghost use Rattle.std.specs.Prelude.{◌↔◌, All, IsTrue};
-ghost use Rattle.c_lexer_parts.specs.Lexemes.{IsName};
+ghost use Rattle.c_lexer_lexemes.specs.Lexemes.{IsName};
 
 use c_program::Function;
 use lang::is_name;

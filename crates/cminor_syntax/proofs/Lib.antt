@@ -1,0 +1,1 @@
+pub use Rattle.machine.proofs.Distinct

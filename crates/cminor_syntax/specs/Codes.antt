@@ -2,7 +2,7 @@
 use Rattle.std.specs.Prelude.{◌≡◌, ℕ, List, [], ◌∷◌, ◌++◌, Option, refl}
 use Rattle.std.specs.Coded.{Coded, code_by, coded_list}
 use Rattle.std.proofs.Common.{ap, ◌∙◌}
-use Rattle.ints.specs.declared.operators.Op.{Op}
+use Rattle.machine.specs.Op.{Op}
 use Rattle.cminor_syntax.specs.Trees.{ExpressionTree, StatementTree, StatementsTree, FunctionTree}
 use Rattle.cminor_syntax.specs.Trees as T
 

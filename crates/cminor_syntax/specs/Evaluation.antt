@@ -1,7 +1,7 @@
 -- What expressions give (Leroy 2009, section 3.1). A value is a word or undefined; where an undefined one is
 -- used, or the machine's table has no answer, or a cell is not there, there is no value: the run goes wrong.
 use Rattle.std.specs.Prelude.{ℕ, ◌==◌, List, [], ◌∷◌, Option, Some, None, option_and_then, if◌then◌else◌}
-use Rattle.ints.specs.MachineTable.{machine_table}
+use Rattle.machine.specs.MachineTable.{machine_table}
 use Rattle.machine.specs.Acts.{pair_of}
 use Rattle.cminor_syntax.specs.Trees.{ExpressionTree, Number, Variable, Load, Unary, Binary, Choice}
 use Rattle.cminor_syntax.specs.State.{State, held, cell}

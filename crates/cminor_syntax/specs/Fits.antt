@@ -2,10 +2,10 @@
 -- than its highest part.
 use Rattle.std.specs.Prelude.{◌≡◌, ℕ, suc, ◌<◌, ◌≤◌, ◌^◌, List, [], ◌∷◌, length, Option, Some, None, max}
 use Rattle.std.specs.List.{AllByRecursion}
-use Rattle.ints.specs.Codes.{argument_count_of}
+use Rattle.machine.specs.Codes.{argument_count_of}
 use Rattle.machine.specs.Fits.{parameter_limit}
 use Rattle.cminor_syntax.specs.Trees.{ExpressionTree, StatementTree, StatementsTree, FunctionTree, Number, Variable, Load, Unary, Binary, Choice, Skip, Assign, Store, Call, Put, Sequence, If, Loop, Block, Exit, Return, Done, First}
-pub use Rattle.lang_parts.specs.Limits.{global_limit, function_limit}
+pub use Rattle.machine.specs.Limits.{global_limit, function_limit}
 
 -- the limits of a function
 abbrev pub variable_limit : ℕ

@@ -1,7 +1,7 @@
 -- The trees of Cminor without their addresses in memory: what the meaning, the ranges and the spelling speak of.
 -- (Leroy 2009, section on Cminor; the exact forms are this project's own.)
 use Rattle.std.specs.Prelude.{ℕ, List, Option}
-use Rattle.ints.specs.declared.operators.Op.{Op}
+use Rattle.machine.specs.Op.{Op}
 
 -- an operator takes one word or two
 pub data ExpressionTree : Type 0 where

@@ -1,4 +1,4 @@
-use ints::Op;
+use machine::Op;
 
 /// An expression: it gives a word or nothing defined, and changes nothing.
 #[derive(Drop)]

@@ -1,7 +1,7 @@
 -- What an instruction does to facts.
 use Rattle.std.specs.Prelude.{ℕ, List, Bool, Option, not, nat_eq}
 use Rattle.std.specs.List.{filter}
-use Rattle.rtl_language.specs.declared.instruction.Instruction.{Instruction}
+use Rattle.rtl_passes_facts.specs.Instruction.{Instruction}
 use Rattle.constprop_check_rules.specs.declared.fact.Fact.{Fact}
 use Rattle.constprop_check_rules.specs.Known.{names, known_fact, written_by, value_by}
 use Rattle.constprop_check.specs.declared.behind.Written.{Written}

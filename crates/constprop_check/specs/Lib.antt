@@ -2,3 +2,8 @@ pub mod Baseline
 pub mod Behind
 pub mod FactForm
 pub mod PassLaws
+pub use Rattle.constprop_check_rules.specs.NodeRow
+pub use Rattle.constprop_check_rules.specs.Rules
+pub use Rattle.constprop_check_rules.specs.declared.fact.Fact
+pub use Rattle.rtl_passes_facts.specs.Certificates
+pub use Rattle.rtl_passes_facts.specs.RowForm

@@ -5,19 +5,19 @@ use Rattle.std.specs.List.{AllByRecursion}
 use Rattle.lang_base.specs.Keeps.{Keeps}
 use Rattle.lang_base.specs.declared.program.Program.{Program}
 use Rattle.lang_base.specs.Soundness.{AllFit, Accepted}
-use Rattle.rtl_language.specs.declared.instruction.Instruction.{Instruction}
-use Rattle.rtl_language.specs.Function.{FunctionData, IsFunction}
-use Rattle.rtl_language.specs.Meaning.{run}
-use Rattle.rtl_passes_marks.specs.declared.row.NodeRow.{NodeRow}
-use Rattle.rtl_passes_marks.specs.RowForm.{rows_text}
-use Rattle.rtl_passes_marks.specs.Edges.{edges_of}
-use Rattle.rtl_passes_filled.specs.Known.{IsMadeOrKept}
-use Rattle.rtl_passes_marks.specs.Ranked.{RiseFrom}
+use Rattle.rtl_passes_facts.specs.Instruction.{Instruction}
+use Rattle.rtl_passes_facts.specs.Function.{FunctionData, IsFunction}
+use Rattle.rtl_passes_facts.specs.Meaning.{run}
+use Rattle.rtl_passes_facts.specs.NodeRow.{NodeRow}
+use Rattle.rtl_passes_facts.specs.RowForm.{rows_text}
+use Rattle.rtl_passes_facts.specs.RtlPassesMarksEdges.{edges_of}
+use Rattle.rtl_passes_facts.specs.Known.{IsMadeOrKept}
+use Rattle.rtl_passes_facts.specs.Ranked.{RiseFrom}
 use Rattle.rtl_passes_facts.specs.Certificates.{CertFits}
 use Rattle.rtl_passes_facts.specs.Laws.{accepted_fits, one_certificate}
 use Rattle.constprop_check_rules.specs.declared.fact.Fact.{Fact}
 use Rattle.constprop_check_rules.specs.Rules.{rank, FactFits, IsKnown, made_by, keeps_by, propagation, IsPropagated}
-use Rattle.rtl_language.specs.declared.instruction.Instruction.TheVariants.{Do, Call, Branch, Return}
+use Rattle.rtl_passes_facts.specs.Instruction.TheVariants.{Do, Call, Branch, Return}
 use Rattle.constprop_check_rules.specs.Known.{written_by, value_by, decided, arms}
 use Rattle.constprop_check_rules.specs.Known.{edges_of as taken_of}
 use Rattle.constprop_check_rules.proofs.Behind.{known_splits}

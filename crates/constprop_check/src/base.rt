@@ -4,8 +4,7 @@ ghost use Rattle.constprop_check_rules.specs.Rules.{IsPropagated};
 use crate::lists::FactLists;
 use crate::pass::ConstProp;
 use lang_base::NoMemory;
-use rtl_language::Function;
-use rtl_passes_facts::unchanged;
+use rtl_passes_facts::{Function, unchanged};
 use std::alloc::Global;
 
 /// The input itself, with no rows.

@@ -7,11 +7,8 @@ ghost use Rattle.constprop_check_rules.specs.Known.{arms as arms_of};
 ghost use Rattle.constprop_check_rules.specs.Rules.{FactFits, IsFolded};
 ghost use Rattle.constprop_check.specs.Behind.{change_of, makes, keeps};
 
-use constprop_check_rules::{Fact, decision, fold, value, written};
-use rtl_parts::{Register, Test};
-use rtl_passes_facts::Edges;
-use rtl_language::Instruction;
-use rtl_passes::is_same;
+use constprop_check_rules::{Fact, Register, Test, decision, fold, value, written};
+use rtl_passes_facts::{Edges, Instruction, is_same};
 
 /// The register that an instruction writes, if it writes one, and the word if it is known.
 #[derive(Clone, Copy)]

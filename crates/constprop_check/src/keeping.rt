@@ -2,14 +2,13 @@
 
 ghost use Rattle.std.specs.Prelude.{◌≡◌};
 ghost use Rattle.std.specs.List.{filter};
-ghost use Rattle.rtl_passes_marks.specs.Ranked.{RiseFrom};
-ghost use Rattle.rtl_passes_filled.specs.Places.{IsFirstFrom};
+ghost use Rattle.rtl_passes_facts.specs.Ranked.{RiseFrom};
+ghost use Rattle.rtl_passes_facts.specs.Places.{IsFirstFrom};
 ghost use Rattle.constprop_check_rules.specs.Rules.{rank};
 ghost use Rattle.constprop_check.specs.Behind.{keeps, others};
 
 use crate::behind::Written;
-use constprop_check_rules::Fact;
-use rtl_parts::Register;
+use constprop_check_rules::{Fact, Register};
 
 /// Finds the first fact that speaks of no lower register.
 fn first_from(facts: &[Fact], least: Register) -> usize

@@ -14,7 +14,7 @@ mod verdict;
 
 pub use base::baseline;
 pub use behind::Written;
-pub use constprop_check_rules::Fact;
+pub use constprop_check_rules::{Fact, fold, value, written};
 pub use lists::{FactLists, facts_of};
 pub use pass::ConstProp;
 pub use verdict::{check, why};

@@ -4,8 +4,7 @@ use crate::keeping::keep;
 use crate::pass::ConstProp;
 use constprop_check_rules::Fact;
 use lang_base::{FormError, NoMemory};
-use rtl_passes_facts::{Edges, Rules};
-use rtl_language::Instruction;
+use rtl_passes_facts::{Edges, Instruction, Rules};
 
 impl Rules for ConstProp {
     ghost use Rattle.constprop_check_rules.specs.Rules.{propagation};

@@ -1,13 +1,13 @@
 //! Whether an output is accepted, and where it is not.
 
 ghost use Rattle.std.specs.Prelude.{◌↔◌, IsTrue, IfOk};
-ghost use Rattle.rtl_passes_filled.specs.Accepted.{TellsWhy};
+ghost use Rattle.rtl_passes_facts.specs.Accepted.{TellsWhy};
 ghost use Rattle.constprop_check_rules.specs.Rules.{propagation, IsPropagated};
 
 use crate::lists::FactLists;
 use crate::pass::ConstProp;
 use lang_base::{Fault, NoMemory};
-use rtl_language::Function;
+use rtl_passes_facts::Function;
 use std::alloc::Global;
 
 /// What is wrong with the output and the facts, if anything is. `Shape`: the parameters, registers, entries or

@@ -6,13 +6,13 @@ use Rattle.std.proofs.lemmas.Bool.{eqb-true, eq-eqb}
 use Rattle.std.proofs.lemmas.List.{get_or-set_same, get_or-set_other}
 use Rattle.ints.specs.MachineTable.{machine_table}
 use Rattle.ints.specs.CondTable.{cond_table}
-use Rattle.rtl_parts.specs.declared.arguments.Arguments.{Arguments}
-use Rattle.rtl_parts.specs.declared.arguments.Arguments.TheVariants.{One, Two}
-use Rattle.rtl_parts.specs.declared.act.Act.{Act}
-use Rattle.rtl_parts.specs.declared.act.Act.TheVariants.{Nop, Constant, Move, Operate, Load, Store, Put}
-use Rattle.rtl_parts.specs.declared.test.Test.{Test}
-use Rattle.rtl_parts.specs.Data.{Data, value_at, put_at}
-use Rattle.rtl_parts.specs.Acts.{pair_of, words_of, given, with_result, changed, stored, printing, does, holds}
+use Rattle.rtl_passes_filled.specs.Arguments.{Arguments}
+use Rattle.rtl_passes_filled.specs.Arguments.TheVariants.{One, Two}
+use Rattle.rtl_passes_filled.specs.Act.{Act}
+use Rattle.rtl_passes_filled.specs.Act.TheVariants.{Nop, Constant, Move, Operate, Load, Store, Put}
+use Rattle.rtl_passes_filled.specs.Test.{Test}
+use Rattle.rtl_passes_filled.specs.Data.{Data, value_at, put_at}
+use Rattle.rtl_passes_filled.specs.Acts.{pair_of, words_of, given, with_result, changed, stored, printing, does, holds}
 use Rattle.constprop_check_rules.specs.declared.fact.Fact.{Fact}
 use Rattle.constprop_check_rules.specs.Known.{fact_at, known_words, known_value, target_of, known_behind, decided}
 

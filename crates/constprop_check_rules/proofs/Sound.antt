@@ -6,17 +6,17 @@ use Rattle.lang_base.specs.Keeps.{Keeps}
 use Rattle.lang_base.specs.declared.program.Program.{Program}
 use Rattle.lang_base.specs.Soundness.{AllFit, Accepted}
 use Rattle.ints.specs.MachineTable.{machine_table}
-use Rattle.rtl_parts.specs.declared.act.Act.{Act}
-use Rattle.rtl_parts.specs.declared.act.Act.TheVariants.{Nop, Constant, Move, Operate, Load, Store, Put}
-use Rattle.rtl_parts.specs.declared.test.Test.{Test}
-use Rattle.rtl_parts.specs.Fits.{ActFits}
-use Rattle.rtl_parts.specs.Data.{Data, value_at, put_at}
-use Rattle.rtl_parts.specs.Acts.{given, does, holds}
-use Rattle.rtl_language.specs.declared.instruction.Instruction.{Instruction}
-use Rattle.rtl_language.specs.declared.instruction.Instruction.TheVariants.{Do, Call, Branch, Return}
-use Rattle.rtl_language.specs.Function.{FunctionData, InstructionFits, IsFunction}
-use Rattle.rtl_language.specs.Meaning.{run}
-use Rattle.rtl_passes.specs.Effects.{onward, chooses, effect_of, HoldsAfter}
+use Rattle.rtl_passes_filled.specs.Act.{Act}
+use Rattle.rtl_passes_filled.specs.Act.TheVariants.{Nop, Constant, Move, Operate, Load, Store, Put}
+use Rattle.rtl_passes_filled.specs.Test.{Test}
+use Rattle.rtl_passes_filled.specs.Fits.{ActFits}
+use Rattle.rtl_passes_filled.specs.Data.{Data, value_at, put_at}
+use Rattle.rtl_passes_filled.specs.Acts.{given, does, holds}
+use Rattle.rtl_passes_filled.specs.Instruction.{Instruction}
+use Rattle.rtl_passes_filled.specs.Instruction.TheVariants.{Do, Call, Branch, Return}
+use Rattle.rtl_passes_filled.specs.Function.{FunctionData, InstructionFits, IsFunction}
+use Rattle.rtl_passes_filled.specs.Meaning.{run}
+use Rattle.rtl_passes_filled.specs.Effects.{onward, chooses, effect_of, HoldsAfter}
 use Rattle.rtl_passes_filled.specs.Rules.{facts_at, LeadsTo, LeadsOn, MayBecome, AreRight}
 use Rattle.rtl_passes_filled.proofs.Sound.{AreSound, AreThere, facts_keep, filled_keep}
 use Rattle.constprop_check_rules.specs.declared.fact.Fact.{Fact}

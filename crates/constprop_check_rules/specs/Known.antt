@@ -3,14 +3,14 @@ use Rattle.std.specs.Prelude.{ℕ, List, [], ◌∷◌, Option, Some, None, Bool
 use Rattle.std.specs.Option.{option_map}
 use Rattle.ints.specs.MachineTable.{machine_table}
 use Rattle.ints.specs.CondTable.{cond_table}
-use Rattle.rtl_parts.specs.declared.arguments.Arguments.{Arguments}
-use Rattle.rtl_parts.specs.declared.arguments.Arguments.TheVariants.{One, Two}
-use Rattle.rtl_parts.specs.declared.act.Act.{Act}
-use Rattle.rtl_parts.specs.declared.act.Act.TheVariants.{Nop, Constant, Move, Operate, Load, Store, Put}
-use Rattle.rtl_parts.specs.declared.test.Test.{Test}
-use Rattle.rtl_parts.specs.Acts.{pair_of}
-use Rattle.rtl_language.specs.declared.instruction.Instruction.{Instruction}
-use Rattle.rtl_language.specs.declared.instruction.Instruction.TheVariants.{Do, Call, Branch, Return}
+use Rattle.rtl_passes_filled.specs.Arguments.{Arguments}
+use Rattle.rtl_passes_filled.specs.Arguments.TheVariants.{One, Two}
+use Rattle.rtl_passes_filled.specs.Act.{Act}
+use Rattle.rtl_passes_filled.specs.Act.TheVariants.{Nop, Constant, Move, Operate, Load, Store, Put}
+use Rattle.rtl_passes_filled.specs.Test.{Test}
+use Rattle.rtl_passes_filled.specs.Acts.{pair_of}
+use Rattle.rtl_passes_filled.specs.Instruction.{Instruction}
+use Rattle.rtl_passes_filled.specs.Instruction.TheVariants.{Do, Call, Branch, Return}
 use Rattle.constprop_check_rules.specs.declared.fact.Fact.{Fact}
 
 -- the word that a register has by these facts, if one speaks of it

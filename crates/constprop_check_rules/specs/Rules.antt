@@ -1,9 +1,9 @@
 -- What the pass accepts: an output that differs by constants, and for marked nodes the facts that hold there.
 use Rattle.std.specs.Prelude.{◌≡◌, ℕ, ◌<◌, ◌^◌, Bool, List, Option, Some, not}
-use Rattle.rtl_language.specs.declared.instruction.Instruction.{Instruction}
-use Rattle.rtl_language.specs.Function.{FunctionData}
-use Rattle.rtl_passes_marks.specs.Ranked.{RiseFrom}
-use Rattle.rtl_passes_marks.specs.declared.row.NodeRow.{NodeRow}
+use Rattle.rtl_passes_filled.specs.Instruction.{Instruction}
+use Rattle.rtl_passes_filled.specs.Function.{FunctionData}
+use Rattle.rtl_passes_filled.specs.Ranked.{RiseFrom}
+use Rattle.rtl_passes_filled.specs.NodeRow.{NodeRow}
 use Rattle.rtl_passes_filled.specs.Rules.{RulesOf}
 use Rattle.rtl_passes_filled.specs.Accepted.{IsAccepted}
 use Rattle.constprop_check_rules.specs.declared.fact.Fact.{Fact}

@@ -1,4 +1,4 @@
-use rtl_parts::Register;
+use rtl_passes_filled::Register;
 
 /// At a node the register holds the word.
 #[derive(Clone, Copy, Debug, PartialEq, Eq)]

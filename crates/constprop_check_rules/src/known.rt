@@ -3,14 +3,13 @@
 ghost use Rattle.std.specs.Prelude.{◌≡◌, ◌==◌, ℕ, [], ◌∷◌, option_and_then, IfSome};
 ghost use Rattle.ints.specs.CondTable.{cond_table};
 ghost use Rattle.ints.specs.MachineTable.{machine_table};
-ghost use Rattle.rtl_parts.specs.Fits.{ActFits};
+ghost use Rattle.rtl_passes_filled.specs.Fits.{ActFits};
 ghost use Rattle.constprop_check_rules.specs.Ranges.{StaysInRange};
 ghost use Rattle.constprop_check_rules.specs.Known.{fact_at, known_words, known_value, target_of, written_by, value_by, decided, folded_act, folded};
 
 use crate::fact::Fact;
 use ints::{Cond, Op, eval_cond, eval_m};
-use rtl_parts::{Act, Arguments, Register, Test};
-use rtl_language::Instruction;
+use rtl_passes_filled::{Act, Arguments, Instruction, Register, Test};
 
 /// The word that a register has by the facts.
 pub fn word_of(facts: &[Fact], register: Register) -> Option<u32>

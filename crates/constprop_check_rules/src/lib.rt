@@ -12,3 +12,4 @@ pub use known::{
     act_target, act_value, apply, decision, fold, holds, known_result, value, word_of, written,
 };
 pub use law::propagated_keeps;
+pub use rtl_passes_filled::{Act, Register, Test};

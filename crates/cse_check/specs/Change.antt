@@ -1,10 +1,10 @@
 -- What an instruction does to equations.
 use Rattle.std.specs.Prelude.{◌≡◌, ℕ, Bool, false, ◌||◌, Option, None, not}
-use Rattle.rtl_parts.specs.declared.act.Act.{Act}
-use Rattle.rtl_parts.specs.declared.act.Act.TheVariants.{Nop, Constant, Move, Operate, Load, Store, Put}
-use Rattle.rtl_language.specs.declared.instruction.Instruction.{Instruction}
-use Rattle.rtl_language.specs.declared.instruction.Instruction.TheVariants.{Do, Call, Branch, Return}
-use Rattle.constprop_check_rules.specs.Known.{written_by}
+use Rattle.rtl_passes_facts.specs.Act.{Act}
+use Rattle.rtl_passes_facts.specs.Act.TheVariants.{Nop, Constant, Move, Operate, Load, Store, Put}
+use Rattle.rtl_passes_facts.specs.Instruction.{Instruction}
+use Rattle.rtl_passes_facts.specs.Instruction.TheVariants.{Do, Call, Branch, Return}
+use Rattle.cse_check_rules.specs.Known.{written_by}
 use Rattle.cse_check_rules.specs.declared.equation.RightSide.{RightSide}
 use Rattle.cse_check_rules.specs.declared.equation.Equation.{Equation}
 use Rattle.cse_check_rules.specs.Equations.{equation_by, loads, loads_from, overwrites}

@@ -6,21 +6,21 @@ use Rattle.std.proofs.lemmas.List.{get_or_default}
 use Rattle.lang_base.specs.Keeps.{Keeps}
 use Rattle.lang_base.specs.declared.program.Program.{Program}
 use Rattle.lang_base.specs.Soundness.{AllFit, Accepted}
-use Rattle.rtl_language.specs.declared.instruction.Instruction.{Instruction}
-use Rattle.rtl_language.specs.declared.instruction.Instruction.TheVariants.{Do, Call, Branch, Return}
-use Rattle.rtl_language.specs.Function.{FunctionData, IsFunction}
-use Rattle.rtl_language.specs.Meaning.{run}
-use Rattle.rtl_passes_marks.specs.declared.row.NodeRow.{NodeRow}
-use Rattle.rtl_passes_marks.specs.RowForm.{rows_text}
-use Rattle.rtl_passes_marks.specs.Edges.{edges_of}
-use Rattle.rtl_passes_filled.specs.Known.{IsMadeOrKept}
-use Rattle.rtl_passes_marks.specs.Ranked.{RiseFrom}
+use Rattle.rtl_passes_facts.specs.Instruction.{Instruction}
+use Rattle.rtl_passes_facts.specs.Instruction.TheVariants.{Do, Call, Branch, Return}
+use Rattle.rtl_passes_facts.specs.Function.{FunctionData, IsFunction}
+use Rattle.rtl_passes_facts.specs.Meaning.{run}
+use Rattle.rtl_passes_facts.specs.NodeRow.{NodeRow}
+use Rattle.rtl_passes_facts.specs.RowForm.{rows_text}
+use Rattle.rtl_passes_facts.specs.RtlPassesMarksEdges.{edges_of}
+use Rattle.rtl_passes_facts.specs.Known.{IsMadeOrKept}
+use Rattle.rtl_passes_facts.specs.Ranked.{RiseFrom}
 use Rattle.rtl_passes_facts.specs.Certificates.{CertFits}
 use Rattle.rtl_passes_facts.specs.Laws.{accepted_fits, one_certificate}
 use Rattle.cse_check_rules.specs.declared.equation.Equation.{Equation}
-use Rattle.rtl_parts.specs.declared.act.Act.{Act}
-use Rattle.rtl_parts.specs.declared.act.Act.TheVariants.{Nop, Constant, Move, Operate, Load, Store, Put}
-use Rattle.constprop_check_rules.specs.Known.{written_by}
+use Rattle.rtl_passes_facts.specs.Act.{Act}
+use Rattle.rtl_passes_facts.specs.Act.TheVariants.{Nop, Constant, Move, Operate, Load, Store, Put}
+use Rattle.cse_check_rules.specs.Known.{written_by}
 use Rattle.cse_check_rules.specs.declared.equation.RightSide.{RightSide}
 use Rattle.cse_check_rules.specs.Equations.{equation_by, kills, overwrites, act_disturbs, disturbs, successors_of}
 use Rattle.cse_check.specs.Change.{cells_of_act, cells_by, disturbed, change_of, keeps}

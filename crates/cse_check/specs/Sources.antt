@@ -1,9 +1,9 @@
 -- Moves that equations allow, by the register that is moved from.
 use Rattle.std.specs.Prelude.{◌≡◌, ℕ, List, Option, Some, None, Contains}
-use Rattle.rtl_parts.specs.declared.act.Act.{Act}
-use Rattle.rtl_parts.specs.declared.act.Act.TheVariants.{Move}
-use Rattle.rtl_language.specs.declared.instruction.Instruction.{Instruction}
-use Rattle.rtl_language.specs.declared.instruction.Instruction.TheVariants.{Do}
+use Rattle.rtl_passes_facts.specs.Act.{Act}
+use Rattle.rtl_passes_facts.specs.Act.TheVariants.{Move}
+use Rattle.rtl_passes_facts.specs.Instruction.{Instruction}
+use Rattle.rtl_passes_facts.specs.Instruction.TheVariants.{Do}
 use Rattle.cse_check_rules.specs.declared.equation.Equation.{Equation}
 use Rattle.cse_check_rules.specs.Equations.{shared}
 

@@ -4,8 +4,7 @@ ghost use Rattle.cse_check_rules.specs.Rules.{IsEliminated};
 use crate::lists::EquationLists;
 use crate::pass::Cse;
 use lang_base::NoMemory;
-use rtl_language::Function;
-use rtl_passes_facts::unchanged;
+use rtl_passes_facts::{Function, unchanged};
 use std::alloc::Global;
 
 /// The input itself, with no rows.

@@ -1,15 +1,13 @@
 //! Where an instruction can go on, and which equations can be there.
 
 ghost use Rattle.std.specs.Prelude.{◌≡◌, ◌↔◌, ◌<◌, IsTrue};
-ghost use Rattle.rtl_parts.specs.Fits.{ArgumentsFit};
+ghost use Rattle.rtl_passes_facts.specs.Fits.{ArgumentsFit};
 ghost use Rattle.rtl_passes_facts.specs.Edges.{nodes_of};
 ghost use Rattle.cse_check_rules.specs.Equations.{successors_of};
 ghost use Rattle.cse_check_rules.specs.Rules.{RightFits, EquationFits};
 
 use cse_check_rules::{Equation, RightSide};
-use rtl_parts::Arguments;
-use rtl_passes_facts::Edges;
-use rtl_language::Instruction;
+use rtl_passes_facts::{Arguments, Edges, Instruction};
 
 /// Where the instruction can go on.
 pub(crate) fn edges(instruction: &Instruction) -> Edges

@@ -4,10 +4,8 @@ ghost use Rattle.std.specs.Prelude.{◌≡◌, IsTrue, ◌↔◌};
 ghost use Rattle.std.specs.List.{filter};
 ghost use Rattle.cse_check.specs.Change.{cells_of_act, cells_by, disturbed, change_of, keeps, ChangesNothing};
 
-use cse_check_rules::{Equation, RightSide, is_load, is_load_from, is_overwritten, made};
-use constprop_check_rules::written;
-use rtl_parts::{Act, Register};
-use rtl_language::Instruction;
+use cse_check_rules::{Equation, RightSide, is_load, is_load_from, is_overwritten, made, written};
+use rtl_passes_facts::{Act, Instruction, Register};
 
 /// Cells that may hold other words behind an instruction.
 #[derive(Clone, Copy)]

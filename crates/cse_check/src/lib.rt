@@ -13,7 +13,7 @@ mod rules;
 mod verdict;
 
 pub use base::baseline;
-pub use cse_check_rules::{Equation, RightSide};
+pub use cse_check_rules::{Equation, RightSide, kills, made, rank, share};
 pub use lists::{EquationLists, equations_of};
 pub use pass::Cse;
 pub use verdict::{check, why};

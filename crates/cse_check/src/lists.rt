@@ -1,9 +1,9 @@
 ghost use Rattle.std.specs.Prelude.{◌≡◌};
-ghost use Rattle.rtl_passes_marks.specs.Rows.{entries_at};
+ghost use Rattle.rtl_passes_facts.specs.Rows.{entries_at};
 
 use cse_check_rules::Equation;
-use rtl_passes_marks::{NodeRow, entries_of};
 use lang_base::Row;
+use rtl_passes_facts::{NodeRow, entries_of};
 
 /// The certificate: for marked nodes the equations that hold there, by rising nodes. Anybody may propose one, so nothing
 /// is promised of it.

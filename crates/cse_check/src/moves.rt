@@ -5,9 +5,7 @@ ghost use Rattle.cse_check_rules.specs.Rules.{IsShared};
 ghost use Rattle.cse_check.specs.Sources.{act_source_of, source_of, IsSharedFrom};
 
 use cse_check_rules::{Equation, share};
-use rtl_parts::{Act, Register};
-use rtl_language::Instruction;
-use rtl_passes::is_same;
+use rtl_passes_facts::{Act, Instruction, Register, is_same};
 
 fn act_source(act: &Act) -> Option<Register>
     ensures { result ≡ act_source_of act.now }

@@ -2,8 +2,7 @@ use crate::base::baseline;
 use crate::lists::EquationLists;
 use crate::verdict::check;
 use lang_base::{FormError, NoMemory, Pass, PassError};
-use rtl_language::{Function, Rtl};
-use rtl_passes_facts::{read_certificate, write_certificate};
+use rtl_passes_facts::{Function, Rtl, read_certificate, write_certificate};
 use std::alloc::Global;
 
 /// Pass 2: what a register holds already is not computed or loaded again.
@@ -11,7 +10,7 @@ pub struct Cse;
 
 impl Pass for Cse {
     ghost use Rattle.std.specs.Prelude.{◌≡◌, ◌≢◌, ◌≤◌, ℕ, List, ◌++◌, length, take, IsTrue, ◌↔◌, OnOk, OnErr, IfOk, IfErr};
-    ghost use Rattle.rtl_passes_marks.specs.RowForm.{rows_text};
+    ghost use Rattle.rtl_passes_facts.specs.RowForm.{rows_text};
     ghost use Rattle.rtl_passes_facts.specs.Certificates.{CertFits};
     ghost use Rattle.cse_check_rules.specs.Order.{equation_text};
     ghost use Rattle.cse_check_rules.specs.Rules.{elimination, IsEliminated};

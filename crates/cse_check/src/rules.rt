@@ -4,8 +4,7 @@ use crate::moves::is_shared;
 use crate::pass::Cse;
 use cse_check_rules::{Equation, is_same, push_equation, rank, read_equation};
 use lang_base::{FormError, NoMemory};
-use rtl_passes_facts::{Edges, Rules};
-use rtl_language::Instruction;
+use rtl_passes_facts::{Edges, Instruction, Rules};
 
 impl Rules for Cse {
     ghost use Rattle.cse_check_rules.specs.Order.{equation_text};

@@ -1,13 +1,13 @@
 //! Whether an output is accepted, and where it is not.
 
 ghost use Rattle.std.specs.Prelude.{◌↔◌, IsTrue, IfOk};
-ghost use Rattle.rtl_passes_filled.specs.Accepted.{TellsWhy};
+ghost use Rattle.rtl_passes_facts.specs.Accepted.{TellsWhy};
 ghost use Rattle.cse_check_rules.specs.Rules.{elimination, IsEliminated};
 
 use crate::lists::EquationLists;
 use crate::pass::Cse;
 use lang_base::{Fault, NoMemory};
-use rtl_language::Function;
+use rtl_passes_facts::Function;
 use std::alloc::Global;
 
 /// What is wrong with the output and the equations, if anything is. `Shape`: the parameters, registers, entries or

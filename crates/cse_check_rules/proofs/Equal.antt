@@ -5,8 +5,8 @@ use denote.Enum.Bare.{same_true}
 use Rattle.ints.specs.contracts.operators.Op as op_type
 use Rattle.ints.specs.contracts.operators.OpPartialEq.TheImpl as op_eq
 use Rattle.machine.proofs.Equal.{Tells}
-use Rattle.rtl_parts.specs.contracts.arguments.ArgumentsPartialEq.TheImpl as arguments_eq
-use Rattle.rtl_parts.proofs.Equal.{arguments_tells}
+use Rattle.rtl_acts.specs.contracts.arguments.ArgumentsPartialEq.TheImpl as arguments_eq
+use Rattle.rtl_acts.proofs.Equal.{arguments_tells}
 use Rattle.cse_check_rules.specs.contracts.equation.RightSidePartialEq.TheImpl as right_eq
 use Rattle.cse_check_rules.specs.contracts.equation.EquationPartialEq.TheImpl as equation_eq
 use Rattle.cse_check_rules.specs.declared.equation.RightSide.TheVariants.{Operation, Cell, Copy}

@@ -8,13 +8,13 @@ use Rattle.lang_base.proofs.Lists.{HasCode, TakesBehind, unknown_takes, follow_f
 use Rattle.ints.specs.declared.operators.Op.{Op}
 use Rattle.ints.specs.Codes.{code_of, op_of_code, argument_count_of}
 use Rattle.ints.proofs.Codes.{codes_lead_back}
-use Rattle.rtl_parts.specs.declared.arguments.Arguments.{Arguments}
-use Rattle.rtl_parts.specs.Fits.{RegisterFits, GlobalFits, ArgumentsFit}
-use Rattle.rtl_parts.specs.Spelling.{register_text, arguments_text}
-use Rattle.lang_parts.specs.Limits.{global}
-use Rattle.rtl_parts.specs.Reading.{register, arguments}
-use Rattle.lang_parts.proofs.Limits.{global_form}
-use Rattle.rtl_parts.proofs.Forms.{register_form, arguments_form}
+use Rattle.rtl_acts.specs.declared.arguments.Arguments.{Arguments}
+use Rattle.rtl_acts.specs.Fits.{RegisterFits, GlobalFits, ArgumentsFit}
+use Rattle.rtl_acts.specs.Spelling.{register_text, arguments_text}
+use Rattle.lang_helpers.specs.Limits.{global}
+use Rattle.rtl_acts.specs.Reading.{register, arguments}
+use Rattle.lang_helpers.proofs.Limits.{global_form}
+use Rattle.rtl_acts.proofs.Forms.{register_form, arguments_form}
 use Rattle.machine.proofs.Operators.{argument_count_range, code_small}
 use Rattle.cse_check_rules.specs.declared.equation.RightSide.{RightSide}
 use Rattle.cse_check_rules.specs.declared.equation.RightSide.TheVariants.{Operation, Cell, Copy}

@@ -8,13 +8,13 @@ use Rattle.std.specs.Cmp.Lexicographic.{slice_cmp}
 use Rattle.std.proofs.lemmas.Cmp.{ranked, by_ranked, tied_itself, nat_list_cmp_total}
 use Rattle.std.proofs.lemmas.List.{append-nil}
 use Rattle.lang_base.proofs.Forms.{one_text}
-use Rattle.rtl_parts.specs.declared.arguments.Arguments.TheVariants.{One, Two}
+use Rattle.rtl_acts.specs.declared.arguments.Arguments.TheVariants.{One, Two}
 use Rattle.cse_check_rules.specs.declared.equation.RightSide.{RightSide}
 use Rattle.cse_check_rules.specs.declared.equation.RightSide.TheVariants.{Operation, Cell, Copy}
 use Rattle.cse_check_rules.specs.declared.equation.Equation.{Equation}
 use Rattle.cse_check_rules.specs.Order.{equation_text, IsBefore, rank}
 use Rattle.cse_check_rules.specs.Rules.{RightFits, EquationFits, Rise}
-use Rattle.rtl_passes_marks.specs.Ranked.{RiseFrom}
+use Rattle.rtl_passes_filled.specs.Ranked.{RiseFrom}
 use Rattle.machine.proofs.Operators.{code_small}
 use Rattle.cse_check_rules.proofs.Forms.{equation_form}
 

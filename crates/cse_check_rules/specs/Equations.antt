@@ -1,12 +1,12 @@
 -- Which equation an instruction makes, and which it kills (Leroy 2009, section on common subexpression elimination).
 use Rattle.std.specs.Prelude.{ℕ, List, [], ◌∷◌, Bool, true, false, ◌||◌, Option, Some, None, nat_eq, if◌then◌else◌}
 use Rattle.std.specs.Option.{option_map}
-use Rattle.rtl_parts.specs.declared.arguments.Arguments.{Arguments}
-use Rattle.rtl_parts.specs.declared.arguments.Arguments.TheVariants.{One, Two}
-use Rattle.rtl_parts.specs.declared.act.Act.{Act}
-use Rattle.rtl_parts.specs.declared.act.Act.TheVariants.{Move, Operate, Load, Store}
-use Rattle.rtl_language.specs.declared.instruction.Instruction.{Instruction}
-use Rattle.rtl_language.specs.declared.instruction.Instruction.TheVariants.{Do, Call, Branch, Return}
+use Rattle.rtl_acts.specs.declared.arguments.Arguments.{Arguments}
+use Rattle.rtl_acts.specs.declared.arguments.Arguments.TheVariants.{One, Two}
+use Rattle.rtl_acts.specs.declared.act.Act.{Act}
+use Rattle.rtl_acts.specs.declared.act.Act.TheVariants.{Move, Operate, Load, Store}
+use Rattle.rtl_passes_filled.specs.Instruction.{Instruction}
+use Rattle.rtl_passes_filled.specs.Instruction.TheVariants.{Do, Call, Branch, Return}
 use Rattle.constprop_check_rules.specs.Known.{written_by}
 use Rattle.cse_check_rules.specs.declared.equation.RightSide.{RightSide}
 use Rattle.cse_check_rules.specs.declared.equation.RightSide.TheVariants.{Operation, Cell, Copy}

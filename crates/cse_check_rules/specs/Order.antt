@@ -5,9 +5,9 @@ use Rattle.std.specs.declared.cmp.Ordering.TheVariants.{Less}
 use Rattle.std.specs.Cmp.Lexicographic.{slice_cmp}
 use Rattle.std.specs.Int.{w16, to_be_bytes}
 use Rattle.ints.specs.Codes.{code_of}
-use Rattle.rtl_parts.specs.declared.arguments.Arguments.{Arguments}
-use Rattle.rtl_parts.specs.declared.arguments.Arguments.TheVariants.{One, Two}
-use Rattle.rtl_parts.specs.Spelling.{register_text, arguments_text}
+use Rattle.rtl_acts.specs.declared.arguments.Arguments.{Arguments}
+use Rattle.rtl_acts.specs.declared.arguments.Arguments.TheVariants.{One, Two}
+use Rattle.rtl_acts.specs.Spelling.{register_text, arguments_text}
 use Rattle.cse_check_rules.specs.declared.equation.RightSide.{RightSide}
 use Rattle.cse_check_rules.specs.declared.equation.RightSide.TheVariants.{Operation, Cell, Copy}
 use Rattle.cse_check_rules.specs.declared.equation.Equation.{Equation}

@@ -1,9 +1,9 @@
 -- What is made of an act or an instruction in range is in range, by a register that is there.
 use Rattle.std.specs.Prelude.{ℕ, ◌<◌, Option, IfSome}
-use Rattle.rtl_parts.specs.declared.act.Act.{Act}
-use Rattle.rtl_parts.specs.Fits.{ActFits}
-use Rattle.rtl_language.specs.declared.instruction.Instruction.{Instruction}
-use Rattle.rtl_language.specs.Function.{InstructionFits}
+use Rattle.rtl_acts.specs.declared.act.Act.{Act}
+use Rattle.rtl_acts.specs.Fits.{ActFits}
+use Rattle.rtl_passes_filled.specs.Instruction.{Instruction}
+use Rattle.rtl_passes_filled.specs.Function.{InstructionFits}
 use Rattle.cse_check_rules.specs.declared.equation.Equation.{Equation}
 
 -- among however many registers and nodes, if anything is made of it

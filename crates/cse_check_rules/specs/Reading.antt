@@ -2,8 +2,8 @@
 use Rattle.std.specs.Prelude.{ℕ, [], ◌∷◌}
 use Rattle.lang_base.specs.Reading.{Reading, byte, made, decoded, both, Table, follow, unknown, coded}
 use Rattle.ints.specs.Codes.{op_of_code, argument_count_of}
-use Rattle.lang_parts.specs.Limits.{global}
-use Rattle.rtl_parts.specs.Reading.{register, arguments}
+use Rattle.lang_helpers.specs.Limits.{global}
+use Rattle.rtl_acts.specs.Reading.{register, arguments}
 use Rattle.cse_check_rules.specs.declared.equation.RightSide.{RightSide}
 use Rattle.cse_check_rules.specs.declared.equation.RightSide.TheVariants.{Operation, Cell, Copy}
 use Rattle.cse_check_rules.specs.declared.equation.Equation.{Equation}

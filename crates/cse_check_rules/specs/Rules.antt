@@ -1,10 +1,10 @@
 -- What the pass accepts: an output that differs by moves, and for marked nodes the equations that hold there.
 use Rattle.std.specs.Prelude.{◌≡◌, ◌⊎◌, ℕ, Bool, false, List, [], ◌∷◌, Option, Some, Contains, not}
 use Rattle.ints.specs.Codes.{argument_count_of}
-use Rattle.rtl_parts.specs.Fits.{RegisterFits, GlobalFits, ArgumentsFit}
-use Rattle.rtl_language.specs.declared.instruction.Instruction.{Instruction}
-use Rattle.rtl_language.specs.Function.{FunctionData}
-use Rattle.rtl_passes_marks.specs.declared.row.NodeRow.{NodeRow}
+use Rattle.rtl_acts.specs.Fits.{RegisterFits, GlobalFits, ArgumentsFit}
+use Rattle.rtl_passes_filled.specs.Instruction.{Instruction}
+use Rattle.rtl_passes_filled.specs.Function.{FunctionData}
+use Rattle.rtl_passes_filled.specs.NodeRow.{NodeRow}
 use Rattle.rtl_passes_filled.specs.Rules.{RulesOf}
 use Rattle.rtl_passes_filled.specs.Accepted.{IsAccepted}
 use Rattle.cse_check_rules.specs.declared.equation.RightSide.{RightSide}

@@ -1,5 +1,5 @@
-use rtl_parts::{Arguments, Register};
 use ints::Op;
+use rtl_acts::{Arguments, Register};
 
 /// What stands on the right of an equation.
 #[derive(Clone, Copy, PartialEq, Eq)]

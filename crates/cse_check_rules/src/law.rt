@@ -3,8 +3,8 @@
 ghost use Rattle.lang_base.specs.Keeps.{Keeps};
 ghost use Rattle.lang_base.specs.declared.program.Program.{Program};
 ghost use Rattle.lang_base.specs.Soundness.{AllFit, Accepted};
-ghost use Rattle.rtl_language.specs.Function.{FunctionData, IsFunction};
-ghost use Rattle.rtl_language.specs.Meaning.{run};
+ghost use Rattle.rtl_passes_filled.specs.Function.{FunctionData, IsFunction};
+ghost use Rattle.rtl_passes_filled.specs.Meaning.{run};
 ghost use Rattle.rtl_passes_filled.specs.Rules.{AreRight};
 ghost use Rattle.cse_check_rules.specs.Rules.{elimination, IsEliminated};
 

@@ -13,6 +13,7 @@ mod sharing;
 mod survival;
 mod writing;
 
+pub use constprop_check_rules::written;
 pub use equation::{Equation, RightSide};
 pub use law::eliminated_keeps;
 pub use order::rank;

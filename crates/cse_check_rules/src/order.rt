@@ -5,7 +5,7 @@ ghost use Rattle.cse_check_rules.specs.Order.{arguments_rank, right_rank};
 ghost use Rattle.cse_check_rules.specs.Order.{rank as rank_of};
 
 use crate::equation::{Equation, RightSide};
-use rtl_parts::Arguments;
+use rtl_acts::Arguments;
 
 fn rank_of_arguments(arguments: &Arguments) -> u64
     ensures value { result ≡ arguments_rank arguments.now }

@@ -4,10 +4,10 @@ ghost use Rattle.lang_base.specs.Reading.{IsRead};
 ghost use Rattle.cse_check_rules.specs.Reading.{operation, cell, copying, right, equation};
 
 use crate::equation::{Equation, RightSide};
-use rtl_parts::{read_arguments, read_register};
 use ints::Op;
 use lang_base::{FormError, read_byte};
-use lang_parts::read_global;
+use lang_helpers::read_global;
+use rtl_acts::{read_arguments, read_register};
 
 #[tactic(auto, unfolding(crate::specs::Reading::operation))]
 fn read_operation(registers: u32, bytes: &mut &[u8]) -> Result<RightSide, FormError>

@@ -3,8 +3,8 @@ ghost use Rattle.cse_check_rules.specs.Equations.{shared_by, shared};
 ghost use Rattle.cse_check_rules.specs.Ranges.{ActStaysInRange, StaysInRange};
 
 use crate::equation::{Equation, RightSide};
-use rtl_parts::{Act, Register};
-use rtl_language::Instruction;
+use rtl_acts::{Act, Register};
+use rtl_passes_filled::Instruction;
 
 fn share_act(act: &Act, register: Register) -> Option<(Equation, Act)>
     ensures value { result ≡ shared_by act.now register }

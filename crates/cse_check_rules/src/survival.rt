@@ -5,9 +5,9 @@ ghost use Rattle.cse_check_rules.specs.Equations.{takes, reads, names, equation_
 ghost use Rattle.cse_check_rules.specs.Equations.{kills as killed_by};
 
 use crate::equation::{Equation, RightSide};
-use rtl_parts::{Act, Arguments, Register};
-use rtl_language::Instruction;
 use constprop_check_rules::written;
+use rtl_acts::{Act, Arguments, Register};
+use rtl_passes_filled::Instruction;
 
 fn take(arguments: &Arguments, register: Register) -> bool
     ensures { result ≡ takes arguments.now register }

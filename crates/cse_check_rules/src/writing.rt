@@ -5,8 +5,8 @@ ghost use Rattle.lang_base.specs.Texts.{Appends};
 ghost use Rattle.cse_check_rules.specs.Order.{right_code, right_body, equation_text};
 
 use crate::equation::{Equation, RightSide};
-use rtl_parts::push_arguments;
 use lang_base::{NoMemory, push_byte, push_u16};
+use rtl_acts::push_arguments;
 
 fn push_right(out: &mut Vec<u8>, right: &RightSide) -> Result<(), NoMemory>
     ensures { Appends result (right_code right.now ∷ right_body right.now) out.old.items out.new.items }

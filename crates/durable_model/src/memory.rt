@@ -5,8 +5,7 @@ ghost use Rattle.durable_model_writes.specs.History.{size_of, noted, seen_after}
 
 use crate::disk::Disk;
 use crate::error::{DiskError, failed};
-use durable_model_writes::{Call, keep, note, overwrite, torn_image};
-use lang_base::NoMemory;
+use durable_model_writes::{Call, NoMemory, keep, note, overwrite, torn_image};
 use rand_pcg::Pcg32;
 use std::alloc::{AllocError, Global};
 

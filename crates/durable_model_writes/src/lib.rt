@@ -8,6 +8,7 @@ mod replaying;
 mod tearing;
 
 pub use call::{Call, keep, note};
+pub use lang_base::NoMemory;
 pub use overwriting::{lengthen, overwrite};
 pub use replaying::torn_image;
 pub use tearing::{garble, tear};

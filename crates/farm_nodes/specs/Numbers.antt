@@ -1,10 +1,10 @@
 -- The number of why a farm does not open.
 use Rattle.std.specs.Prelude.{ℕ}
 use Rattle.acceptor_log_form.specs.Refusals as journals
-use Rattle.farm_nodes_function_rooms.specs.declared.fault.RoomFault.{RoomFault}
-use Rattle.farm_nodes_function_rooms.specs.declared.fault.RoomFault.TheVariants as rooms
-use Rattle.farm_nodes_seated.specs.declared.fault.OpenFault.{OpenFault}
-use Rattle.farm_nodes_seated.specs.declared.fault.OpenFault.TheVariants.{NoMemory, Journal, Refused, Room}
+use Rattle.farm_nodes_open_nodes.specs.RoomFault.{RoomFault}
+use Rattle.farm_nodes_open_nodes.specs.RoomFault.TheVariants as rooms
+use Rattle.farm_nodes_open_nodes.specs.OpenFault.{OpenFault}
+use Rattle.farm_nodes_open_nodes.specs.OpenFault.TheVariants.{NoMemory, Journal, Refused, Room}
 use Rattle.farm_nodes_source.specs.Told as texts
 use Rattle.farm_nodes.specs.declared.error.FarmError.{FarmError}
 use Rattle.farm_nodes.specs.declared.error.FarmError.TheVariants.{Source, Disks}

@@ -6,16 +6,16 @@ use Rattle.lang.specs.Form.{IsProgram}
 use Rattle.c_syntax.specs.Trees.{UnitTree}
 use Rattle.c_program.specs.Meaning.{crun}
 use Rattle.c_checker_rules.specs.Checked.{program_tree}
-use Rattle.c_texts.specs.Accepted.{IsAccepted, IsProgramOf}
+use Rattle.farm_nodes_source.specs.Accepted.{IsAccepted, IsProgramOf}
 use Rattle.cminor_lowering.specs.Programs.{low}
 use Rattle.linear_language.specs.Function as linear_function
 use Rattle.linear_language.specs.Meaning as linear
 use Rattle.rtlgen_definition.specs.Gen.{gen}
 use Rattle.rooms_hall.specs.declared.hall.Naming as naming
-use Rattle.farm_nodes_linked.specs.Learned.{learned_by}
-use Rattle.farm_nodes_linked.specs.Offered.{linked_offers}
-use Rattle.rooms_numbered.specs.declared.seat.NumberedSeat.{NumberedSeat}
-use Rattle.farm_nodes_linked.specs.declared.errors.LinkedError.{LinkedError}
+use Rattle.farm_nodes_link.specs.Learned.{learned_by}
+use Rattle.farm_nodes_link.specs.Offered.{linked_offers}
+use Rattle.farm_nodes_link.specs.NumberedSeat.{NumberedSeat}
+use Rattle.farm_nodes_link.specs.declared.errors.LinkedError.{LinkedError}
 use Rattle.farm_nodes_source.specs.declared.source.Source.{Source}
 use Rattle.farm_nodes.specs.Prepared.{IsSourceOf}
 

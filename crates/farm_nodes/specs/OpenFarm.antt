@@ -5,7 +5,7 @@ use Rattle.durable_model.specs.declared.disk.Disk as disks
 use Rattle.durable_pair.specs.declared.pair.Pair as pairs
 use Rattle.paxos_core_world.specs.Quorum.{Sizes}
 use Rattle.rooms_hall.specs.declared.hall.Naming as naming
-use Rattle.farm_nodes_opened.specs.OpenNodes.{HaveJournalsOn, HaveOpenRooms}
+use Rattle.farm_nodes_open_nodes.specs.OpenNodes.{HaveJournalsOn, HaveOpenRooms}
 use Rattle.farm_nodes.specs.declared.farm.Farm.{Farm}
 
 module _ {D O H : Type 0} {h : naming.Ghosts H} (disk : disks.Ghosts D) where

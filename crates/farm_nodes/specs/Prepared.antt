@@ -6,9 +6,9 @@ use Rattle.lang_base.specs.Keeps.{Keeps}
 use Rattle.c_syntax.specs.Trees.{UnitTree}
 use Rattle.c_program.specs.Meaning.{crun}
 use Rattle.c_checker_rules.specs.Checked.{program_tree}
-use Rattle.c_texts.specs.Accepted.{IsAccepted, IsProgramOf}
+use Rattle.farm_nodes_source.specs.Accepted.{IsAccepted, IsProgramOf}
 use Rattle.cminor_lowering.specs.Programs.{low}
-use Rattle.cminor_program_ranges.specs.Names.{HaveNames}
+use Rattle.farm_nodes_source.specs.Names.{HaveNames}
 use Rattle.rtl_language.specs.Meaning as rtl
 use Rattle.rtlgen_definition.specs.Gen.{gen}
 use Rattle.farm_nodes_source.specs.declared.source.Source.{Source}

@@ -8,9 +8,9 @@ use Rattle.paxos_core_world.specs.Quorum.{Sizes}
 use Rattle.farm_nodes_source.specs.declared.source.Source.{Source}
 use Rattle.farm_nodes_source.specs.Refused.{IsUnprepared}
 use Rattle.farm_nodes_source.specs.declared.fault.SourceFault.{SourceFault}
-use Rattle.farm_nodes_opened.specs.Back.{AllComeBack}
-use Rattle.farm_nodes_opened.specs.Refused.{TellsJournal, TellsOffer, TellsRoom}
-use Rattle.farm_nodes_seated.specs.declared.fault.OpenFault.{OpenFault}
+use Rattle.farm_nodes_open_nodes.specs.Back.{AllComeBack}
+use Rattle.farm_nodes_open_nodes.specs.Refused.{TellsJournal, TellsOffer, TellsRoom}
+use Rattle.farm_nodes_open_nodes.specs.OpenFault.{OpenFault}
 use Rattle.farm_nodes.specs.Prepared.{IsSourceOf}
 use Rattle.farm_nodes.specs.declared.error.FarmError.{FarmError}
 use Rattle.farm_nodes.specs.declared.error.FarmError.TheVariants as error

@@ -1,8 +1,7 @@
 ghost use Rattle.std.specs.Prelude.{◌≡◌};
 ghost use Rattle.farm_nodes.specs.Numbers.{number_of, room_number_of};
 
-use farm_nodes_seated::OpenFault;
-use farm_nodes_function_rooms::RoomFault;
+use farm_nodes_open_nodes::{OpenFault, RoomFault};
 use farm_nodes_source::SourceFault;
 
 /// Why a farm does not open. What is refused of the text comes first.

@@ -1,18 +1,17 @@
 ghost use Rattle.std.specs.Prelude.{◌≡◌, ◌≤◌, None, All, length, map, IfOk, IfErr};
 ghost use Rattle.std.specs.Arc.{arc_value};
 ghost use Rattle.std.specs.List.{AllByRecursion};
-ghost use Rattle.farm_nodes_joining.specs.FarmNodes.{AllCompile};
-ghost use Rattle.farm_nodes_joining.specs.Words.{generators};
-ghost use Rattle.farm_nodes_node.specs.Asked.{MayBeAsked};
+ghost use Rattle.farm_nodes_open_nodes.specs.FarmNodes.{AllCompile};
+ghost use Rattle.farm_nodes_open_nodes.specs.Words.{generators};
+ghost use Rattle.farm_nodes_link.specs.Asked.{MayBeAsked};
 ghost use Rattle.farm_nodes.specs.OpenFarm.{HasJournalsOn, HasOpenRooms};
 ghost use Rattle.farm_nodes.specs.Prepared.{IsSourceOf};
 ghost use Rattle.farm_nodes.specs.Refused.{AreRefusedOver, LeavesPairs, TellsDisks};
 
 use crate::error::FarmError;
 use durable_pair::Pair;
-use farm_nodes_node::FarmNode;
-use farm_nodes_seated::OpenFault;
-use farm_nodes_opened::open_nodes;
+use farm_nodes_link::FarmNode;
+use farm_nodes_open_nodes::{OpenFault, open_nodes};
 use farm_nodes_source::{Source, prepare};
 use paxos_core_world::quorum::Quorums;
 use rooms_hall::{Hall, Naming};

@@ -1,12 +1,11 @@
 //! From an accepted text to what two nodes of its farm link.
 
 ghost use Rattle.std.specs.Prelude.{◌≢◌, Err, IfErr};
-ghost use Rattle.farm_nodes_linked.specs.Alike.{HaveCounted};
-ghost use Rattle.farm_nodes_linked.specs.Linking.{CannotLink};
+ghost use Rattle.farm_nodes_link.specs.Alike.{HaveCounted};
+ghost use Rattle.farm_nodes_link.specs.Linking.{CannotLink};
 ghost use Rattle.farm_nodes.specs.OneProgram.{LinkOneProgram};
 
-use farm_nodes_linked::{LinkedError, linked};
-use farm_nodes_node::FarmNode;
+use farm_nodes_link::{FarmNode, LinkedError, linked};
 use farm_nodes_source::Source;
 use lang_base::Program;
 use linear_language::Function;

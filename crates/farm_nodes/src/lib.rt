@@ -5,21 +5,23 @@
 
 mod error;
 mod farm;
+mod giving;
+mod law;
 mod laws;
 mod nodes;
 
 pub use error::FarmError;
 pub use farm::Farm;
-pub use farm_nodes_compiling::{Optimisers, Optimising, optimisers_of};
-pub use farm_nodes_passes::Oracles;
-pub use farm_nodes_linked::{LinkedError, has_learned_all, linked, one_program};
-pub use farm_nodes_node_meeting::{are_strangers, meet};
-pub use farm_nodes_node::{FarmNode, Halted, Turn};
-pub use farm_nodes_seated::OpenFault;
-pub use farm_nodes_function_rooms::RoomFault;
-pub use farm_nodes_restart_seat::RestartFault;
-pub use farm_nodes_returning::{own_disk, restart};
+pub use farm_nodes_link::{
+    FarmNode, Halted, LinkError, LinkedError, Turn, has_learned_all, learned_offer, linked,
+    one_program,
+};
+pub use farm_nodes_meet_nodes::{are_strangers, meet};
+pub use farm_nodes_open_nodes::{OpenFault, RoomFault};
+pub use farm_nodes_restart_disks::{RestartFault, own_disk, restart};
 pub use farm_nodes_source::{Source, SourceFault, prepare};
-pub use farm_nodes_workers::RunError;
-pub use farm_nodes_threads::run_threads;
+pub use farm_nodes_threads::{NumberedSeat, Oracles, run_threads};
+pub use farm_nodes_threads_teams::RunError;
+pub use giving::{Optimisers, Optimising, optimisers_of};
+pub use law::stays_small;
 pub use laws::linked_by_both;

@@ -1,7 +1,7 @@
 ghost use Rattle.std.specs.Prelude.{◌≡◌};
 
 use crate::farm::Farm;
-use farm_nodes_node::FarmNode;
+use farm_nodes_link::FarmNode;
 use rooms_hall::Naming;
 
 impl<D: Drop, O: Drop, H: Naming> Farm<D, O, H> {

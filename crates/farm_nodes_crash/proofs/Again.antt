@@ -13,18 +13,18 @@ use Rattle.acceptor_log_form.specs.Leaves.{kept_in}
 use Rattle.acceptor_log_form.specs.declared.record.Record.{Record}
 use Rattle.acceptor_log.specs.Acknowledged.{acknowledged}
 use Rattle.acceptor_log.specs.declared.log.Log.{Log}
-use Rattle.rooms_state.specs.SeatState.{SeatState, opening_of}
-use Rattle.rooms_state.proofs.Opened.{same_nodes}
+use Rattle.rooms_seat_state.specs.SeatState.{SeatState, opening_of}
+use Rattle.rooms_seat_state.proofs.Opened.{same_nodes}
 use Rattle.rooms_crash.specs.Held.{MayHold}
 use Rattle.rooms_crash.proofs.Keeping.{stands_known}
 use Rattle.rooms_crash.proofs.Resting.{learns_again}
-use Rattle.farm_nodes_passes.specs.Fours.{words_of}
-use Rattle.farm_nodes_passes.specs.Numbers.{function_of, pass_of, place_of, room_at}
-use Rattle.farm_nodes_passes.specs.declared.which.Which.{Which}
-use Rattle.farm_nodes_node.specs.declared.halted.Halted.{Halted}
-use Rattle.farm_nodes_function_rooms.specs.Kept.{kept_of}
+use Rattle.farm_nodes_turn_passes.specs.Fours.{words_of}
+use Rattle.farm_nodes_turn_passes.specs.Numbers.{function_of, pass_of, place_of, room_at}
+use Rattle.farm_nodes_turn_passes.specs.declared.which.Which.{Which}
+use Rattle.farm_nodes_turn_node.specs.declared.halted.Halted.{Halted}
+use Rattle.farm_nodes_open_numbers.specs.Kept.{kept_of}
 use Rattle.farm_nodes_restart_records.proofs.Rooms.{function_at, pass_at_room}
-use Rattle.farm_nodes_seated.proofs.Lists.{found_at}
+use Rattle.farm_nodes_open_nodes.proofs.Lists.{found_at}
 use Rattle.farm_nodes_crash.specs.Again.{AreOpenedOn, IsLaterSeat, LearnedAgain}
 use Rattle.farm_nodes_crash.specs.Left.{AreLeftOf, NodeSeats}
 use Rattle.farm_nodes_crash.specs.Meeting.{FunctionSeats}

@@ -7,11 +7,11 @@ use Rattle.paxos_core_world.specs.Quorum.{Sizes}
 use Rattle.acceptor_log_form.specs.declared.header.Header.{Header}
 use Rattle.acceptor_log.specs.declared.log.Log.{Log}
 use Rattle.rooms_crash.specs.Meetings.{IsSeatOf}
-use Rattle.farm_nodes_passes.specs.Fours.{words_of}
-use Rattle.farm_nodes_node.specs.Held.{sizes_in}
-use Rattle.farm_nodes_passes.specs.Numbers.{function_of, room_at}
-use Rattle.farm_nodes_passes.specs.declared.which.Which.{Which}
-use Rattle.farm_nodes_node.specs.declared.halted.Halted.{Halted}
+use Rattle.farm_nodes_turn_passes.specs.Fours.{words_of}
+use Rattle.farm_nodes_turn_node.specs.Held.{sizes_in}
+use Rattle.farm_nodes_turn_passes.specs.Numbers.{function_of, room_at}
+use Rattle.farm_nodes_turn_passes.specs.declared.which.Which.{Which}
+use Rattle.farm_nodes_turn_node.specs.declared.halted.Halted.{Halted}
 use Rattle.farm_nodes_restart_records.proofs.Rooms.{function_at, pass_at_room}
 use Rattle.farm_nodes_crash.specs.Left.{IsNode, NodeSeats}
 use Rattle.farm_nodes_crash.specs.Meeting.{AreSeats, FunctionSeats}

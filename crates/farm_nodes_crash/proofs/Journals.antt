@@ -10,14 +10,14 @@ use Rattle.acceptor_log_form.specs.declared.record.Record.{Record}
 use Rattle.acceptor_log_form.specs.Order.{AreInOrder}
 use Rattle.acceptor_log_form.specs.Text.{StandsFor}
 use Rattle.acceptor_log.specs.declared.log.Log.{Log}
-use Rattle.farm_nodes_node.specs.Held.{pending_in}
-use Rattle.farm_nodes_node.specs.declared.halted.Halted.{Halted}
-use Rattle.farm_nodes_passes.specs.Texts.{pass_texts}
-use Rattle.farm_nodes_returning.proofs.Own.{own_in_order}
+use Rattle.farm_nodes_turn_node.specs.Held.{pending_in}
+use Rattle.farm_nodes_turn_node.specs.declared.halted.Halted.{Halted}
+use Rattle.farm_nodes_turn_passes.specs.Texts.{pass_texts}
+use Rattle.farm_nodes_restart_disks.proofs.Own.{own_in_order}
 use Rattle.farm_nodes_restart_records.proofs.Leaving.{front_in_order}
-use Rattle.farm_nodes_disks.specs.Journals.{header_of, IsOpened}
-use Rattle.farm_nodes_stored.specs.Read.{AreBad, HasNoOffer}
-use Rattle.farm_nodes_seated.proofs.Lists.{found_at}
+use Rattle.farm_nodes_open_journals.specs.Journals.{header_of, IsOpened}
+use Rattle.farm_nodes_open_stored.specs.Read.{AreBad, HasNoOffer}
+use Rattle.farm_nodes_open_nodes.proofs.Lists.{found_at}
 use Rattle.farm_nodes_crash.specs.Left.{AreLeftOf, IsLeftOf, IsNode, NodeSeats}
 use Rattle.farm_nodes_crash.specs.Stand.{JournalsStand, LeftJournalsStand, RecordsStand}
 use Rattle.farm_nodes_crash.proofs.Nodes.{journal, own_opens, own_records, own_stands, upto}

@@ -3,15 +3,15 @@ use Rattle.std.proofs.Common.{◌≡◌, ◌≢◌, ◌⊎◌, ℕ, ◌<◌, Lis
 use Rattle.std.specs.Prelude.{slice_get}
 use Rattle.std.proofs.lemmas.Bool.{cases_eq}
 use Rattle.paxos_core_world.specs.Quorum.{Sizes}
-use Rattle.rooms_state.specs.SeatState.{SeatState}
+use Rattle.rooms_seat_state.specs.SeatState.{SeatState}
 use Rattle.rooms_seat.specs.Meeting.{HaveMet}
 use Rattle.rooms_crash.specs.Meetings.{IsSeatOf, Meetings, Meets}
 use Rattle.rooms_crash.proofs.Joining.{meetings_join}
-use Rattle.farm_nodes_passes.specs.Fours.{words_of}
-use Rattle.farm_nodes_passes.specs.Numbers.{room_at}
-use Rattle.farm_nodes_passes.specs.declared.which.Which.{Which}
+use Rattle.farm_nodes_turn_passes.specs.Fours.{words_of}
+use Rattle.farm_nodes_turn_passes.specs.Numbers.{room_at}
+use Rattle.farm_nodes_turn_passes.specs.declared.which.Which.{Which}
 use Rattle.farm_nodes_restart_records.proofs.Rooms.{function_at, pass_at_room}
-use Rattle.farm_nodes_seated.proofs.Lists.{found_at}
+use Rattle.farm_nodes_open_nodes.proofs.Lists.{found_at}
 use Rattle.farm_nodes_crash.specs.Left.{NodeSeats}
 use Rattle.farm_nodes_crash.specs.Meeting.{AreSeats, FunctionSeats, MeetTwice, NodesMeet, NodesMeetings, NodesThatMetRest}
 use Rattle.farm_nodes_crash.specs.Rooms.{RestIn, RoomsRest}

@@ -13,20 +13,20 @@ use Rattle.acceptor_log_form.specs.Lists.{Between}
 use Rattle.acceptor_log_form.specs.Text.{StandsFor}
 use Rattle.acceptor_log_form.proofs.Between.{between-lists, between-no_fault}
 use Rattle.acceptor_log.specs.declared.log.Log.{Log}
-use Rattle.rooms_state.specs.SeatState.{SeatState}
+use Rattle.rooms_seat_state.specs.SeatState.{SeatState}
 use Rattle.rooms_crash.specs.Held.{MayHold}
-use Rattle.farm_nodes_acting.specs.declared.stop.Pending.{Pending}
-use Rattle.farm_nodes_acting.specs.declared.stop.Pending.TheVariants.{Act, Offer}
-use Rattle.farm_nodes_passes.specs.Fours.{Four, words_of}
-use Rattle.farm_nodes_node.specs.Held.{pending_in, IsJournalOf}
-use Rattle.farm_nodes_passes.specs.Numbers.{function_of, pass_of}
-use Rattle.farm_nodes_passes.specs.Offers.{ConstantsOffer, ExpressionsOffer, AllocationOffer, OrderOffer, IsConstants, IsExpressions, IsAllocation, IsOrder}
-use Rattle.farm_nodes_passes.specs.Leaves.{left_in, IsPendingIn, MayPend}
-use Rattle.farm_nodes_passes.specs.Texts.{pass_texts}
-use Rattle.farm_nodes_passes.specs.declared.which.Which.{Which}
-use Rattle.farm_nodes_passes.specs.declared.which.Which.TheVariants.{Constants, Expressions, Allocation, Order}
-use Rattle.farm_nodes_node.specs.declared.halted.Halted.{Halted}
-use Rattle.farm_nodes_disks.specs.Journals.{header_of, IsDueToJournal, IsOpened}
+use Rattle.farm_nodes_turn_step.specs.declared.stop.Pending.{Pending}
+use Rattle.farm_nodes_turn_step.specs.declared.stop.Pending.TheVariants.{Act, Offer}
+use Rattle.farm_nodes_turn_passes.specs.Fours.{Four, words_of}
+use Rattle.farm_nodes_turn_node.specs.Held.{pending_in, IsJournalOf}
+use Rattle.farm_nodes_turn_passes.specs.Numbers.{function_of, pass_of}
+use Rattle.farm_nodes_turn_passes.specs.Offers.{ConstantsOffer, ExpressionsOffer, AllocationOffer, OrderOffer, IsConstants, IsExpressions, IsAllocation, IsOrder}
+use Rattle.farm_nodes_turn_passes.specs.Leaves.{left_in, IsPendingIn, MayPend}
+use Rattle.farm_nodes_turn_passes.specs.Texts.{pass_texts}
+use Rattle.farm_nodes_turn_passes.specs.declared.which.Which.{Which}
+use Rattle.farm_nodes_turn_passes.specs.declared.which.Which.TheVariants.{Constants, Expressions, Allocation, Order}
+use Rattle.farm_nodes_turn_node.specs.declared.halted.Halted.{Halted}
+use Rattle.farm_nodes_open_journals.specs.Journals.{header_of, IsDueToJournal, IsOpened}
 use Rattle.farm_nodes_crash.specs.Left.{IsLeftOf, IsNode, IsWaitingWith, NodeSeats}
 use Rattle.farm_nodes_crash.proofs.Pending.{holds_none, holds_pending, one_at_most, with_or_without, MayWait}
 

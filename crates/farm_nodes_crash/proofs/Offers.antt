@@ -16,30 +16,30 @@ use Rattle.linearize_check.specs.contracts.pass.LinearizePass.TheImpl as order
 use Rattle.acceptor_log_form.specs.declared.record.Record.{Record}
 use Rattle.acceptor_log_form.specs.declared.record.Record.TheVariants.{Offered, Started, Proposed, Promised, Accepted, Summary}
 use Rattle.acceptor_log_form.specs.Order.{AreInOrder}
-use Rattle.paxos_core_law.specs.declared.step.Step.{Step}
-use Rattle.paxos_core_law.specs.declared.step.Step.TheVariants as step
+use Rattle.paxos_core_node_steps.specs.declared.step.Step.{Step}
+use Rattle.paxos_core_node_steps.specs.declared.step.Step.TheVariants as step
 use Rattle.offers.specs.declared.parts.Parts.{Parts}
-use Rattle.farm_nodes_order.specs.Recorded.{record_of, records_of}
-use Rattle.farm_nodes_acting.specs.declared.stop.Pending.{Pending}
-use Rattle.farm_nodes_acting.specs.declared.stop.Pending.TheVariants.{Act, Offer}
-use Rattle.rooms_state.specs.Would.{would}
-use Rattle.farm_nodes_passes.specs.Fours.{Four, words_of}
-use Rattle.farm_nodes_node.specs.Held.{pending_in}
-use Rattle.farm_nodes_passes.specs.Numbers.{function_of, pass_at, pass_of, place_of}
-use Rattle.farm_nodes_passes.specs.Offers.{ConstantsOffer, ExpressionsOffer, AllocationOffer, OrderOffer, IsConstants, IsExpressions, IsAllocation, IsOrder}
-use Rattle.farm_nodes_passes.specs.Leaves.{left_in, IsPendingIn, Leave, MayPend}
-use Rattle.farm_nodes_passes.specs.Texts.{IsOwnTextIn, pass_texts}
-use Rattle.farm_nodes_passes.specs.declared.which.Which.{Which}
-use Rattle.farm_nodes_passes.specs.declared.which.Which.TheVariants.{Constants, Expressions, Allocation, Order}
-use Rattle.farm_nodes_node.specs.declared.halted.Halted.{Halted}
-use Rattle.farm_nodes_offers.specs.Pending.{IsOfferText}
+use Rattle.farm_nodes_turn_order.specs.Recorded.{record_of, records_of}
+use Rattle.farm_nodes_turn_step.specs.declared.stop.Pending.{Pending}
+use Rattle.farm_nodes_turn_step.specs.declared.stop.Pending.TheVariants.{Act, Offer}
+use Rattle.rooms_seat_state.specs.Would.{would}
+use Rattle.farm_nodes_turn_passes.specs.Fours.{Four, words_of}
+use Rattle.farm_nodes_turn_node.specs.Held.{pending_in}
+use Rattle.farm_nodes_turn_passes.specs.Numbers.{function_of, pass_at, pass_of, place_of}
+use Rattle.farm_nodes_turn_passes.specs.Offers.{ConstantsOffer, ExpressionsOffer, AllocationOffer, OrderOffer, IsConstants, IsExpressions, IsAllocation, IsOrder}
+use Rattle.farm_nodes_turn_passes.specs.Leaves.{left_in, IsPendingIn, Leave, MayPend}
+use Rattle.farm_nodes_turn_passes.specs.Texts.{IsOwnTextIn, pass_texts}
+use Rattle.farm_nodes_turn_passes.specs.declared.which.Which.{Which}
+use Rattle.farm_nodes_turn_passes.specs.declared.which.Which.TheVariants.{Constants, Expressions, Allocation, Order}
+use Rattle.farm_nodes_turn_node.specs.declared.halted.Halted.{Halted}
+use Rattle.farm_nodes_turn_offer.specs.Pending.{IsOfferText}
 use Rattle.paxos_core_world.specs.KeptPart.{KeptPart}
-use Rattle.farm_nodes_order.specs.OfferIn.{offer_in}
-use Rattle.farm_nodes_order.proofs.Told.{stands_alone, told_offered}
+use Rattle.farm_nodes_turn_order.specs.OfferIn.{offer_in}
+use Rattle.farm_nodes_turn_order.proofs.Told.{stands_alone, told_offered}
 use Rattle.farm_nodes_restart_seat.proofs.Places.{some_same, there_is}
-use Rattle.farm_nodes_records.specs.Stored.{HasNoParts}
-use Rattle.farm_nodes_records.specs.Written.{all_written, written}
-use Rattle.farm_nodes_stored.specs.Read.{HasNoOffer}
+use Rattle.farm_nodes_open_stored.specs.Stored.{HasNoParts}
+use Rattle.farm_nodes_open_stored.specs.Written.{all_written, written}
+use Rattle.farm_nodes_open_stored.specs.Read.{HasNoOffer}
 use Rattle.farm_nodes_crash.specs.Left.{IsWaitingWith, NodeSeats}
 
 abbrev FarmFour : Type 0

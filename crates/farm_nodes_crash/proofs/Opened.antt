@@ -13,16 +13,16 @@ use Rattle.acceptor_log_form.specs.declared.record.Record.{Record}
 use Rattle.acceptor_log_form.specs.Leaves.{kept_in}
 use Rattle.acceptor_log.specs.Acknowledged.{acknowledged}
 use Rattle.acceptor_log.specs.declared.log.Log.{Log}
-use Rattle.farm_nodes_node.specs.Held.{pending_in}
-use Rattle.farm_nodes_passes.specs.Numbers.{place_of, room_at}
-use Rattle.farm_nodes_passes.specs.declared.which.Which.{Which}
-use Rattle.farm_nodes_node.specs.declared.halted.Halted.{Halted}
-use Rattle.farm_nodes_disks.specs.Journals.{AreOpened}
-use Rattle.farm_nodes_function_rooms.specs.Kept.{kept_of}
-use Rattle.farm_nodes_function_rooms.specs.Left.{AreLeft, AreLeftIn}
-use Rattle.farm_nodes_stored.specs.Nodes.{AreMade}
-use Rattle.farm_nodes_stored.specs.Read.{IsKeptPart}
-use Rattle.farm_nodes_seated.proofs.Lists.{found_at}
+use Rattle.farm_nodes_turn_node.specs.Held.{pending_in}
+use Rattle.farm_nodes_turn_passes.specs.Numbers.{place_of, room_at}
+use Rattle.farm_nodes_turn_passes.specs.declared.which.Which.{Which}
+use Rattle.farm_nodes_turn_node.specs.declared.halted.Halted.{Halted}
+use Rattle.farm_nodes_open_journals.specs.Journals.{AreOpened}
+use Rattle.farm_nodes_open_numbers.specs.Kept.{kept_of}
+use Rattle.farm_nodes_open_numbers.specs.Left.{AreLeft, AreLeftIn}
+use Rattle.farm_nodes_open_stored.specs.Nodes.{AreMade}
+use Rattle.farm_nodes_open_stored.specs.Read.{IsKeptPart}
+use Rattle.farm_nodes_open_nodes.proofs.Lists.{found_at}
 use Rattle.farm_nodes_crash.specs.Left.{AreLeftOf, NodeSeats}
 use Rattle.farm_nodes_crash.specs.Stand.{AreGoing, AreSettledFrom, OpenedRoomsStand, RoomsStand}
 use Rattle.farm_nodes_crash.proofs.Nodes.{own_records, own_stands, upto}

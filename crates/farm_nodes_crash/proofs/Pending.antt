@@ -3,21 +3,21 @@ use Rattle.std.proofs.Common.{◌≡◌, ◌≢◌, ◌⊎◌, ℕ, List, [], �
 use Rattle.std.proofs.lemmas.Bool.{cases_eq}
 use Rattle.std.proofs.lemmas.List.{append_cancel_left}
 use Rattle.paxos_core_world.specs.KeptPart.{KeptPart, with_offer}
-use Rattle.paxos_core_law.specs.declared.step.Step.{Step}
-use Rattle.paxos_core_law.specs.Would as core
+use Rattle.paxos_core_node_steps.specs.declared.step.Step.{Step}
+use Rattle.paxos_core_node_steps.specs.Would as core
 use Rattle.acceptor_log_form.specs.declared.record.Record.{Record}
 use Rattle.acceptor_log_form.specs.declared.record.Record.TheVariants.{Offered}
 use Rattle.acceptor_log_form.specs.Leaves.{kept_in}
 use Rattle.acceptor_log_form.specs.Lists.{Begins}
-use Rattle.rooms_state.specs.declared.act.Act.{Act as Asked}
-use Rattle.rooms_state.specs.SeatState.{SeatState}
-use Rattle.rooms_state.specs.Would.{would, IsAmong}
+use Rattle.rooms_seat_state.specs.declared.act.Act.{Act as Asked}
+use Rattle.rooms_seat_state.specs.SeatState.{SeatState}
+use Rattle.rooms_seat_state.specs.Would.{would, IsAmong}
 use Rattle.rooms_crash.specs.Held.{MayHold}
-use Rattle.farm_nodes_order.specs.Recorded.{record_of, records_of}
-use Rattle.farm_nodes_order.proofs.Records.{kept_other, kept_own, kept_step, room_of_step}
-use Rattle.farm_nodes_acting.specs.declared.stop.Pending.{Pending}
-use Rattle.farm_nodes_acting.specs.declared.stop.Pending.TheVariants.{Act, Offer}
-use Rattle.farm_nodes_offers.specs.Halted.{left_over}
+use Rattle.farm_nodes_turn_order.specs.Recorded.{record_of, records_of}
+use Rattle.farm_nodes_turn_order.proofs.Records.{kept_other, kept_own, kept_step, room_of_step}
+use Rattle.farm_nodes_turn_step.specs.declared.stop.Pending.{Pending}
+use Rattle.farm_nodes_turn_step.specs.declared.stop.Pending.TheVariants.{Act, Offer}
+use Rattle.farm_nodes_turn_offer.specs.Halted.{left_over}
 
 -- one record at most: a front of it is empty or it
 front_of_one : (a b ps : List Record) → ps ≡ a ++ b → ((r : Record) × (ps ≡ r ∷ [])) ⊎ (ps ≡ []) → (a ≡ []) ⊎ (a ≡ ps)

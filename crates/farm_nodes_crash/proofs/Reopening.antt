@@ -15,20 +15,20 @@ use Rattle.paxos_core_crash.proofs.CrashLemmas.{crashes_are_runs, reached_later}
 use Rattle.acceptor_log_form.specs.declared.record.Record.{Record}
 use Rattle.acceptor_log_form.specs.Leaves.{kept_in}
 use Rattle.acceptor_log.specs.declared.log.Log.{Log}
-use Rattle.rooms_state.specs.SeatState.{SeatState}
-use Rattle.rooms_rule.specs.Views.{world_after}
+use Rattle.rooms_seat_state.specs.SeatState.{SeatState}
+use Rattle.rooms_words.specs.Views.{world_after}
 use Rattle.rooms_crash.specs.Held.{MayHold}
 use Rattle.rooms_crash.proofs.Resting.{rest_leaves}
-use Rattle.farm_nodes_passes.specs.Numbers.{place_of, room_at}
-use Rattle.farm_nodes_passes.specs.declared.which.Which.{Which}
-use Rattle.farm_nodes_passes.specs.declared.which.Which.TheVariants.{Constants, Expressions, Allocation, Order}
-use Rattle.farm_nodes_node.specs.declared.halted.Halted.{Halted}
-use Rattle.farm_nodes_disks.specs.Journals.{AreOpened}
-use Rattle.farm_nodes_function_rooms.specs.Kept.{kept_of}
-use Rattle.farm_nodes_function_rooms.specs.Left.{AreLeft, AreLeftIn}
-use Rattle.farm_nodes_stored.specs.Nodes.{AreMade}
-use Rattle.farm_nodes_stored.specs.Read.{AreKept, IsKeptPart}
-use Rattle.farm_nodes_seated.proofs.Lists.{at_map, found_at}
+use Rattle.farm_nodes_turn_passes.specs.Numbers.{place_of, room_at}
+use Rattle.farm_nodes_turn_passes.specs.declared.which.Which.{Which}
+use Rattle.farm_nodes_turn_passes.specs.declared.which.Which.TheVariants.{Constants, Expressions, Allocation, Order}
+use Rattle.farm_nodes_turn_node.specs.declared.halted.Halted.{Halted}
+use Rattle.farm_nodes_open_journals.specs.Journals.{AreOpened}
+use Rattle.farm_nodes_open_numbers.specs.Kept.{kept_of}
+use Rattle.farm_nodes_open_numbers.specs.Left.{AreLeft, AreLeftIn}
+use Rattle.farm_nodes_open_stored.specs.Nodes.{AreMade}
+use Rattle.farm_nodes_open_stored.specs.Read.{AreKept, IsKeptPart}
+use Rattle.farm_nodes_open_nodes.proofs.Lists.{at_map, found_at}
 use Rattle.farm_nodes_crash.specs.Left.{AreLeftOf, NodeSeats}
 use Rattle.farm_nodes_crash.specs.Rooms.{RestIn, RoomsRest}
 use Rattle.farm_nodes_crash.specs.Stand.{LeftRoomsStand, RoomsStand}

@@ -7,16 +7,16 @@ use Rattle.paxos_core_world.specs.KeptPart.{KeptPart}
 use Rattle.paxos_core_world.specs.Quorum.{Sizes}
 use Rattle.acceptor_log.specs.Acknowledged.{acknowledged}
 use Rattle.acceptor_log.specs.declared.log.Log.{Log}
-use Rattle.rooms_state.specs.SeatState.{SeatState, opening_of}
+use Rattle.rooms_seat_state.specs.SeatState.{SeatState, opening_of}
 use Rattle.rooms_crash.specs.OfRun.{IsOfRun}
-use Rattle.farm_nodes_passes.specs.Fours.{words_of}
-use Rattle.farm_nodes_passes.specs.Numbers.{room_at}
-use Rattle.farm_nodes_passes.specs.declared.which.Which.{Which}
-use Rattle.farm_nodes_node.specs.declared.halted.Halted.{Halted}
-use Rattle.farm_nodes_function_rooms.specs.Kept.{kept_of}
-use Rattle.farm_nodes_stored.specs.Nodes.{AreMade}
-use Rattle.farm_nodes_stored.specs.Read.{AreKept}
-use Rattle.farm_nodes_opened.specs.Back.{IsJournalOn}
+use Rattle.farm_nodes_turn_passes.specs.Fours.{words_of}
+use Rattle.farm_nodes_turn_passes.specs.Numbers.{room_at}
+use Rattle.farm_nodes_turn_passes.specs.declared.which.Which.{Which}
+use Rattle.farm_nodes_turn_node.specs.declared.halted.Halted.{Halted}
+use Rattle.farm_nodes_open_numbers.specs.Kept.{kept_of}
+use Rattle.farm_nodes_open_stored.specs.Nodes.{AreMade}
+use Rattle.farm_nodes_open_stored.specs.Read.{AreKept}
+use Rattle.farm_nodes_open_nodes.specs.Back.{IsJournalOn}
 use Rattle.farm_nodes_crash.specs.Left.{AreLeftOf, NodeSeats}
 use Rattle.farm_nodes_crash.specs.Meeting.{FunctionSeats}
 use Rattle.farm_nodes_crash.specs.Rooms.{RoomsRest}

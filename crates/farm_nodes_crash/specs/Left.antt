@@ -5,12 +5,12 @@ use Rattle.durable_pair.specs.declared.pair.Pair as pairs
 use Rattle.durable_pair.specs.Images.{Both}
 use Rattle.paxos_core_world.specs.Quorum.{Sizes}
 use Rattle.acceptor_log.specs.declared.log.Log.{Log}
-use Rattle.farm_nodes_passes.specs.Fours.{Four}
-use Rattle.farm_nodes_passes.specs.Offers.{ConstantsOffer, ExpressionsOffer, AllocationOffer, OrderOffer, IsConstants, IsExpressions, IsAllocation, IsOrder}
-use Rattle.farm_nodes_passes.specs.Leaves.{MayPend}
-use Rattle.farm_nodes_node.specs.declared.halted.Halted.{Halted}
-use Rattle.farm_nodes_node.specs.Held.{IsSoundNode}
-use Rattle.farm_nodes_disks.specs.Journals.{header_of}
+use Rattle.farm_nodes_turn_passes.specs.Fours.{Four}
+use Rattle.farm_nodes_turn_passes.specs.Offers.{ConstantsOffer, ExpressionsOffer, AllocationOffer, OrderOffer, IsConstants, IsExpressions, IsAllocation, IsOrder}
+use Rattle.farm_nodes_turn_passes.specs.Leaves.{MayPend}
+use Rattle.farm_nodes_turn_node.specs.declared.halted.Halted.{Halted}
+use Rattle.farm_nodes_turn_node.specs.Held.{IsSoundNode}
+use Rattle.farm_nodes_open_journals.specs.Journals.{header_of}
 
 -- a node's seats in the rooms of all functions, by function
 abbrev pub NodeSeats : Type 0

@@ -3,9 +3,9 @@ use Rattle.std.specs.Prelude.{◌≡◌, ◌≢◌, ℕ, ◌<◌, List, [], ◌�
 use Rattle.paxos_core_world.specs.Quorum.{Sizes}
 use Rattle.rooms_seat.specs.Meeting.{HaveMet}
 use Rattle.rooms_crash.specs.Meetings.{AllMeet, IsSeatOf}
-use Rattle.farm_nodes_passes.specs.Fours.{words_of, Four}
-use Rattle.farm_nodes_passes.specs.Offers.{ConstantsOffer, ExpressionsOffer, AllocationOffer, OrderOffer}
-use Rattle.farm_nodes_passes.specs.declared.which.Which.{Which}
+use Rattle.farm_nodes_turn_passes.specs.Fours.{words_of, Four}
+use Rattle.farm_nodes_turn_passes.specs.Offers.{ConstantsOffer, ExpressionsOffer, AllocationOffer, OrderOffer}
+use Rattle.farm_nodes_turn_passes.specs.declared.which.Which.{Which}
 use Rattle.farm_nodes_crash.specs.Left.{NodeSeats}
 use Rattle.farm_nodes_crash.specs.Rooms.{RoomsRest}
 

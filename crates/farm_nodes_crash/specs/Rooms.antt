@@ -1,13 +1,13 @@
 -- The nodes of a farm rest in each of its rooms.
 use Rattle.std.specs.Prelude.{◌≡◌, ℕ, ◌<◌, List, Some, slice_get}
 use Rattle.paxos_core_world.specs.Quorum.{Sizes}
-use Rattle.rooms_state.specs.SeatState.{SeatState}
-use Rattle.rooms_rule.specs.declared.event.Event.{Event}
-use Rattle.rooms_rule.specs.declared.view.Opening.{Opening}
+use Rattle.rooms_seat_state.specs.SeatState.{SeatState}
+use Rattle.rooms_words.specs.declared.event.Event.{Event}
+use Rattle.rooms_words.specs.declared.view.Opening.{Opening}
 use Rattle.rooms_crash.specs.Rest.{AreAtRest}
-use Rattle.farm_nodes_passes.specs.Fours.{words_of, Four}
-use Rattle.farm_nodes_passes.specs.Numbers.{function_of, pass_of, room_at}
-use Rattle.farm_nodes_passes.specs.declared.which.Which.{Which}
+use Rattle.farm_nodes_turn_passes.specs.Fours.{words_of, Four}
+use Rattle.farm_nodes_turn_passes.specs.Numbers.{function_of, pass_of, room_at}
+use Rattle.farm_nodes_turn_passes.specs.declared.which.Which.{Which}
 use Rattle.farm_nodes_crash.specs.Left.{NodeSeats}
 
 -- it is the seat in this room

@@ -9,13 +9,13 @@ use Rattle.acceptor_log_form.specs.declared.errors.LogError.{LogError}
 use Rattle.acceptor_log_form.specs.declared.errors.LogError.TheVariants.{Device, NoMemory}
 use Rattle.acceptor_log.specs.Acknowledged.{acknowledged}
 use Rattle.acceptor_log.specs.declared.log.Log.{Log}
-use Rattle.farm_nodes_node.specs.declared.halted.Halted.{Halted}
-use Rattle.farm_nodes_function_rooms.specs.Kept.{AreSettled}
-use Rattle.farm_nodes_function_rooms.specs.declared.fault.RoomFault.TheVariants.{Unsettled}
-use Rattle.farm_nodes_stored.specs.Nodes.{AreMade}
-use Rattle.farm_nodes_stored.specs.Read.{AreKept}
-use Rattle.farm_nodes_seated.specs.Refused.{HasBadRecord, IsRoomUnopened}
-use Rattle.farm_nodes_opened.specs.Refused.{IsRefusedJournal, OfJournals}
+use Rattle.farm_nodes_turn_node.specs.declared.halted.Halted.{Halted}
+use Rattle.farm_nodes_open_numbers.specs.Kept.{AreSettled}
+use Rattle.farm_nodes_open_numbers.specs.declared.fault.RoomFault.TheVariants.{Unsettled}
+use Rattle.farm_nodes_open_stored.specs.Nodes.{AreMade}
+use Rattle.farm_nodes_open_stored.specs.Read.{AreKept}
+use Rattle.farm_nodes_open_nodes.specs.FarmNodesOpenSeatsRefused.{HasBadRecord, IsRoomUnopened}
+use Rattle.farm_nodes_open_nodes.specs.Refused.{IsRefusedJournal, OfJournals}
 use Rattle.farm_nodes_crash.specs.Left.{AreLeftOf, IsNode, NodeSeats}
 use Rattle.farm_nodes_crash.specs.Meeting.{MeetTwice}
 use Rattle.farm_nodes_crash.specs.Rooms.{RoomsRest}

@@ -4,7 +4,7 @@ use Rattle.std.specs.Prelude.{slice_get}
 use Rattle.std.proofs.lemmas.Bool.{cases_eq}
 use Rattle.std.proofs.lemmas.Option.{slice_get_read, slice_get_within}
 use Rattle.paxos_core_world.specs.KeptPart.{KeptPart}
-use Rattle.farm_nodes_passes.specs.Fours.{Four}
+use Rattle.farm_nodes_turn_passes.specs.Fours.{Four}
 use Rattle.farm_nodes_restart_records.specs.Found.{AreKept, AreKeptAt, IsKeptAt}
 use Rattle.farm_nodes_restart_seat.proofs.Places.{seen_at, some_same}
 

@@ -12,19 +12,19 @@ use Rattle.acceptor_log_form.specs.declared.record.Record.TheVariants.{Offered}
 use Rattle.acceptor_log_form.specs.Text.{room_of}
 use Rattle.acceptor_log_form.specs.Leaves.{kept_by, kept_in, left_from}
 use Rattle.acceptor_log_form.specs.Order.{AreInOrder, MayFollow}
-use Rattle.rooms.specs.SeatValue.{SeatValue}
-use Rattle.farm_nodes_acting.specs.declared.stop.Pending.{Pending}
-use Rattle.farm_nodes_acting.specs.declared.stop.Pending.TheVariants.{Act, Offer}
-use Rattle.farm_nodes_acting.specs.Noted.{pending_of}
-use Rattle.farm_nodes_offers.specs.Pending.{IsAsked, IsPendingOn}
-use Rattle.farm_nodes_passes.specs.Numbers.{function_of, pass_of, place_of}
-use Rattle.farm_nodes_passes.specs.declared.which.Which.{Which}
-use Rattle.farm_nodes_passes.specs.declared.which.Which.TheVariants.{Constants, Expressions, Allocation, Order}
-use Rattle.farm_nodes_passes.specs.Fours.{words_of, Four}
-use Rattle.farm_nodes_passes.specs.Leaves.{left_in, pending_at, IsPendingIn, Leave, MayAsk, MayPend}
-use Rattle.farm_nodes_passes.specs.Texts.{Texts, IsOwnTextIn}
-use Rattle.farm_nodes_offers.specs.Told.{offer_in}
-use Rattle.farm_nodes_order.proofs.Told.{offered_told, stands_alone, stands_there, told_offered}
+use Rattle.farm_nodes_restart_seat.specs.SeatValue.{SeatValue}
+use Rattle.farm_nodes_turn_step.specs.declared.stop.Pending.{Pending}
+use Rattle.farm_nodes_turn_step.specs.declared.stop.Pending.TheVariants.{Act, Offer}
+use Rattle.farm_nodes_turn_step.specs.Noted.{pending_of}
+use Rattle.farm_nodes_turn_passes.specs.FarmNodesTurnOfferPending.{IsAsked, IsPendingOn}
+use Rattle.farm_nodes_turn_passes.specs.Numbers.{function_of, pass_of, place_of}
+use Rattle.farm_nodes_turn_passes.specs.declared.which.Which.{Which}
+use Rattle.farm_nodes_turn_passes.specs.declared.which.Which.TheVariants.{Constants, Expressions, Allocation, Order}
+use Rattle.farm_nodes_turn_passes.specs.Fours.{words_of, Four}
+use Rattle.farm_nodes_turn_passes.specs.Leaves.{left_in, pending_at, IsPendingIn, Leave, MayAsk, MayPend}
+use Rattle.farm_nodes_turn_passes.specs.Texts.{Texts, IsOwnTextIn}
+use Rattle.farm_nodes_turn_passes.specs.Told.{offer_in}
+use Rattle.farm_nodes_turn_step.proofs.Told.{offered_told, stands_alone, stands_there, told_offered}
 use Rattle.farm_nodes_restart_records.specs.declared.finding.Found.{Found}
 use Rattle.farm_nodes_restart_records.specs.declared.finding.Found.TheVariants as found
 use Rattle.farm_nodes_restart_records.specs.Found.{AreKept, AreKeptAt, EndsSo, EndsWith, IsButLast, IsFound, IsJudged, LeaveWith, ShowFront, ShowParts}

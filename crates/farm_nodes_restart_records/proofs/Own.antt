@@ -7,15 +7,15 @@ use Rattle.acceptor_log_form.specs.declared.record.Record.{Record}
 use Rattle.acceptor_log_form.specs.Lists.{Begins, Between}
 use Rattle.acceptor_log_form.specs.Text.{StandsFor}
 use Rattle.acceptor_log_form.proofs.Between.{between-lists}
-use Rattle.paxos_core_law.specs.declared.step.Step.{Step}
-use Rattle.rooms_state.specs.Would.{would}
-use Rattle.farm_nodes_acting.specs.declared.stop.Pending.{Pending}
-use Rattle.farm_nodes_acting.specs.declared.stop.Pending.TheVariants.{Act, Offer}
-use Rattle.farm_nodes_acting.specs.Noted.{record_of, records_of}
-use Rattle.farm_nodes_passes.specs.Numbers.{function_of, pass_of}
-use Rattle.farm_nodes_passes.specs.Fours.{words_of, Four}
-use Rattle.farm_nodes_passes.specs.Leaves.{left_in, pending_at, Leave}
-use Rattle.farm_nodes_passes.specs.Texts.{Texts}
+use Rattle.paxos_core_node_steps.specs.declared.step.Step.{Step}
+use Rattle.farm_nodes_turn_step.specs.Would.{would}
+use Rattle.farm_nodes_turn_step.specs.declared.stop.Pending.{Pending}
+use Rattle.farm_nodes_turn_step.specs.declared.stop.Pending.TheVariants.{Act, Offer}
+use Rattle.farm_nodes_turn_step.specs.Noted.{record_of, records_of}
+use Rattle.farm_nodes_turn_passes.specs.Numbers.{function_of, pass_of}
+use Rattle.farm_nodes_turn_passes.specs.Fours.{words_of, Four}
+use Rattle.farm_nodes_turn_passes.specs.Leaves.{left_in, pending_at, Leave}
+use Rattle.farm_nodes_turn_passes.specs.Texts.{Texts}
 use Rattle.farm_nodes_restart_records.specs.Found.{AreOther}
 
 -- no record, or one

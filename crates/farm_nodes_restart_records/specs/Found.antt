@@ -7,10 +7,10 @@ use Rattle.acceptor_log_form.specs.declared.header.Header.{Header}
 use Rattle.acceptor_log_form.specs.declared.record.Record.{Record}
 use Rattle.acceptor_log_form.specs.Leaves.{kept_in}
 use Rattle.acceptor_log_form.specs.Order.{AreInOrder}
-use Rattle.farm_nodes_acting.specs.declared.stop.Pending.{Pending}
-use Rattle.farm_nodes_passes.specs.Fours.{Four}
-use Rattle.farm_nodes_passes.specs.Leaves.{pending_at, Leave}
-use Rattle.farm_nodes_passes.specs.Texts.{Texts}
+use Rattle.farm_nodes_turn_step.specs.declared.stop.Pending.{Pending}
+use Rattle.farm_nodes_turn_passes.specs.Fours.{Four}
+use Rattle.farm_nodes_turn_passes.specs.Leaves.{pending_at, Leave}
+use Rattle.farm_nodes_turn_passes.specs.Texts.{Texts}
 use Rattle.farm_nodes_restart_records.specs.declared.finding.Found.{Found}
 use Rattle.farm_nodes_restart_records.specs.declared.finding.Found.TheVariants as found
 

@@ -1,3 +1,11 @@
 pub mod Found
 pub mod Told
 pub mod Own
+pub use Rattle.farm_nodes_turn_passes.specs.Fours
+pub use Rattle.farm_nodes_turn_passes.specs.Leaves
+pub use Rattle.farm_nodes_turn_passes.specs.NumberedSeat
+pub use Rattle.farm_nodes_turn_passes.specs.Numbers
+pub use Rattle.farm_nodes_turn_passes.specs.Offers
+pub use Rattle.farm_nodes_turn_passes.specs.Pending
+pub use Rattle.farm_nodes_turn_passes.specs.Texts
+pub use Rattle.farm_nodes_turn_passes.specs.declared.which.Which

@@ -5,9 +5,9 @@ use Rattle.acceptor_log_form.specs.declared.errors.LogError.{LogError}
 use Rattle.acceptor_log_form.specs.declared.errors.LogError.TheVariants as log
 use Rattle.acceptor_log_form.specs.declared.record.Record.{Record}
 use Rattle.acceptor_log_form.specs.declared.record.Record.TheVariants.{Offered}
-use Rattle.farm_nodes_passes.specs.Numbers.{function_of, pass_of}
-use Rattle.farm_nodes_passes.specs.Fours.{Four}
-use Rattle.farm_nodes_passes.specs.Texts.{Texts, IsOwnTextIn}
+use Rattle.farm_nodes_turn_passes.specs.Numbers.{function_of, pass_of}
+use Rattle.farm_nodes_turn_passes.specs.Fours.{Four}
+use Rattle.farm_nodes_turn_passes.specs.Texts.{Texts, IsOwnTextIn}
 use Rattle.farm_nodes_restart_records.specs.declared.finding.Found.{Found}
 use Rattle.farm_nodes_restart_records.specs.declared.finding.Found.TheVariants as found
 use Rattle.farm_nodes_restart_records.specs.Found.{IsButLast}

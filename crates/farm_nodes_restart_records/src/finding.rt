@@ -3,9 +3,9 @@
 ghost use Rattle.std.specs.Prelude.{◌≡◌, ◌<◌, ◌≤◌, ◌*◌, ◌/◌, ◌↔◌, [], ◌∷◌, length, IsTrue, IfOk, IfErr, OnOk};
 ghost use Rattle.std.specs.Prelude.{Some, true, false};
 ghost use Rattle.acceptor_log_form.specs.Order.{AreInOrder};
-ghost use Rattle.farm_nodes_passes.specs.Fours.{fours_of};
-ghost use Rattle.farm_nodes_passes.specs.Leaves.{pending_at, MayAsk};
-ghost use Rattle.farm_nodes_passes.specs.Texts.{pass_texts};
+ghost use Rattle.farm_nodes_turn_passes.specs.Fours.{fours_of};
+ghost use Rattle.farm_nodes_turn_passes.specs.Leaves.{pending_at, MayAsk};
+ghost use Rattle.farm_nodes_turn_passes.specs.Texts.{pass_texts};
 ghost use Rattle.farm_nodes_restart_records.specs.Found.{AreKept, EndsSo, IsFound, IsJudged, IsOrderFault};
 ghost use Rattle.farm_nodes_restart_records.specs.Told.{settled_by, IsConfirmed};
 
@@ -13,9 +13,8 @@ use crate::fours::{are_kept_at, both, is_pending_in};
 use crate::parts::{both_parts, but_last};
 use crate::telling::are_told;
 use acceptor_log_form::{Header, LogError, Record};
-use farm_nodes_acting::Pending;
-use rooms_numbered::NumberedSeat;
-use farm_nodes_passes::Which;
+use farm_nodes_turn_passes::{NumberedSeat, Which};
+use farm_nodes_turn_step::Pending;
 use lang_base::NoMemory;
 use paxos_core_world::kept::Kept;
 use rooms_hall::Naming;

@@ -1,18 +1,17 @@
 //! A node's seats in the four rooms of a function, over records and kept parts.
 
 ghost use Rattle.std.specs.Prelude.{◌≡◌, ◌<◌, ◌+◌, ◌↔◌, [], ◌∷◌, length, IsTrue, IfOk};
-ghost use Rattle.farm_nodes_acting.specs.Noted.{pending_of};
-ghost use Rattle.farm_nodes_offers.specs.Pending.{IsAsked};
-ghost use Rattle.farm_nodes_passes.specs.Fours.{four_of, words_of};
-ghost use Rattle.farm_nodes_passes.specs.Texts.{pass_texts, IsOwnTextIn};
+ghost use Rattle.farm_nodes_turn_step.specs.Noted.{pending_of};
+ghost use Rattle.farm_nodes_turn_passes.specs.FarmNodesTurnOfferPending.{IsAsked};
+ghost use Rattle.farm_nodes_turn_passes.specs.Fours.{four_of, words_of};
+ghost use Rattle.farm_nodes_turn_passes.specs.Texts.{pass_texts, IsOwnTextIn};
 ghost use Rattle.farm_nodes_restart_records.specs.Found.{AreKeptAt};
 
 use crate::seat::is_kept_in;
 use acceptor_log_form::Record;
-use farm_nodes_acting::Pending;
-use rooms_numbered::NumberedSeat;
-use farm_nodes_passes::Which;
 use farm_nodes_restart_seat::{is_own_text, is_pending};
+use farm_nodes_turn_passes::{NumberedSeat, Which};
+use farm_nodes_turn_step::Pending;
 use lang_base::NoMemory;
 use paxos_core_world::kept::Kept;
 use rooms_hall::Naming;

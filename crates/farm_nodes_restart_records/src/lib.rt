@@ -9,5 +9,6 @@ mod parts;
 mod seat;
 mod telling;
 
+pub use farm_nodes_turn_passes::{NumberedSeat, Which};
 pub use finding::{Found, find};
 pub use laws::own_journal;

@@ -5,8 +5,7 @@ ghost use Rattle.acceptor_log_form.specs.declared.record.Record.{Record};
 ghost use Rattle.acceptor_log_form.specs.Order.{AreInOrder};
 ghost use Rattle.farm_nodes_restart_records.specs.Found.{IsButLast, IsOrderFault, ShowFront, ShowParts};
 
-use acceptor_log_form::{Header, LogError, Record};
-use acceptor_log_form::kept_parts;
+use acceptor_log_form::{Header, LogError, Record, kept_parts};
 use paxos_core_world::kept::Kept;
 use std::alloc::Global;
 

@@ -2,9 +2,9 @@
 
 ghost use Rattle.std.specs.Prelude.{◌≡◌, ◌<◌, ◌↔◌, length, Some, slice_get, IsTrue};
 
+use farm_nodes_restart_seat::Seat;
 use lang_base::Pass;
 use paxos_core_world::kept::Kept;
-use rooms::Seat;
 
 /// Whether the part at the place is what the seat keeps.
 pub(crate) fn is_kept_in<P: Pass>(parts: &[Kept], place: usize, seat: &Seat<P>) -> bool

@@ -1,14 +1,13 @@
 //! Whether the records of offers have the texts of those in the node's own cells.
 
 ghost use Rattle.std.specs.Prelude.{◌≡◌, ◌↔◌, IsTrue, IfOk};
-ghost use Rattle.farm_nodes_passes.specs.Fours.{fours_of};
-ghost use Rattle.farm_nodes_passes.specs.Texts.{pass_texts};
+ghost use Rattle.farm_nodes_turn_passes.specs.Fours.{fours_of};
+ghost use Rattle.farm_nodes_turn_passes.specs.Texts.{pass_texts};
 ghost use Rattle.farm_nodes_restart_records.specs.Told.{AreTold, IsTextAt, IsTold};
 
 use crate::fours::{both, is_text_in};
 use acceptor_log_form::Record;
-use rooms_numbered::NumberedSeat;
-use farm_nodes_passes::Which;
+use farm_nodes_turn_passes::{NumberedSeat, Which};
 use lang_base::NoMemory;
 use rooms_hall::Naming;
 use std::alloc::Global;

@@ -2,10 +2,10 @@
 use Rattle.std.proofs.Common.{◌≡◌, ◌↔◌, ℕ, Bool, List, Some, Result, Ok, Err, IfOk, IsTrue, OnOk, sym, ap, ◌∙◌, subst}
 use Rattle.acceptor_log_form.specs.declared.record.Record.{Record}
 use Rattle.acceptor_log_form.specs.declared.record.Record.TheVariants.{Offered}
-use Rattle.rooms.specs.SeatValue.{SeatValue, offer_of}
-use Rattle.farm_nodes_offers.specs.Offered.{PutsOffer}
-use Rattle.farm_nodes_offers.specs.Pending.{IsOfferLeft}
-use Rattle.farm_nodes_offers.specs.Told.{IsOwnText}
+use Rattle.farm_nodes_turn_offer.specs.SeatValue.{SeatValue, offer_of}
+use Rattle.farm_nodes_turn_offer.specs.Offered.{PutsOffer}
+use Rattle.farm_nodes_turn_offer.specs.Pending.{IsOfferLeft}
+use Rattle.farm_nodes_turn_offer.specs.Told.{IsOwnText}
 use Rattle.farm_nodes_restart_seat.specs.Taken.{TookOffer}
 
 module _ {T : Type 0} (IsText : List ℕ → T → Type 0) (room : ℕ) (s : SeatValue T) (m : ℕ) (bytes : List ℕ) (r : Record) (is : r ≡ Offered m bytes) (left : IsOfferLeft IsText room s r) where

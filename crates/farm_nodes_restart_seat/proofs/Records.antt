@@ -1,25 +1,25 @@
 -- What a record leaves of the room is what is left once its step is taken, or its offer made.
 use Rattle.std.proofs.Common.{◌≡◌, ℕ, true, List, [], ◌∷◌, Option, Some, None, refl, sym, ap, ◌∙◌}
-use Rattle.paxos_core_law.specs.declared.step.Step.{Step}
-use Rattle.paxos_core_law.specs.declared.step.Step.TheVariants as step
+use Rattle.paxos_core_node_steps.specs.declared.step.Step.{Step}
+use Rattle.paxos_core_node_steps.specs.declared.step.Step.TheVariants as step
 use Rattle.acceptor_log_form.specs.declared.record.Record.{Record}
 use Rattle.acceptor_log_form.specs.Text.{room_of}
 use Rattle.acceptor_log_form.specs.Leaves.{kept_by}
-use Rattle.rooms_state.specs.declared.act.Act.{Act as Asked}
-use Rattle.rooms_state.specs.SeatState.{SeatState}
-use Rattle.rooms_state.specs.Would.{would, Acted}
+use Rattle.rooms_seat_state.specs.declared.act.Act.{Act as Asked}
+use Rattle.rooms_seat_state.specs.SeatState.{SeatState}
+use Rattle.rooms_seat_state.specs.Would.{would, Acted}
 use Rattle.paxos_core_world.specs.KeptPart.{KeptPart}
-use Rattle.paxos_core_law.specs.Would as core
+use Rattle.paxos_core_node_steps.specs.Would as core
 use Rattle.rooms_cells.specs.Seen.{SightOf, value_at}
-use Rattle.rooms.specs.SeatValue.{SeatValue, offer_of}
-use Rattle.farm_nodes_offers.specs.Told.{offer_by, IsOwnText, IsToldAs}
-use Rattle.farm_nodes_order.proofs.Told.{offer_acted}
-use Rattle.farm_nodes_acting.specs.declared.stop.Pending.{Pending}
-use Rattle.farm_nodes_acting.specs.declared.stop.Pending.TheVariants.{Act, Offer}
-use Rattle.farm_nodes_acting.specs.Noted.{pending_of, record_of, records_of}
-use Rattle.farm_nodes_order.proofs.Records.{room_of_step}
-use Rattle.farm_nodes_acting.proofs.Steps.{step_kept}
-use Rattle.farm_nodes_offers.proofs.Leavings.{offer_kept}
+use Rattle.farm_nodes_turn_offer.specs.SeatValue.{SeatValue, offer_of}
+use Rattle.farm_nodes_turn_offer.specs.Told.{offer_by, IsOwnText, IsToldAs}
+use Rattle.farm_nodes_turn_offer.proofs.Told.{offer_acted}
+use Rattle.farm_nodes_turn_offer.specs.FarmNodesTurnStepPending.{Pending}
+use Rattle.farm_nodes_turn_offer.specs.FarmNodesTurnStepPending.TheVariants.{Act, Offer}
+use Rattle.farm_nodes_turn_offer.specs.Noted.{pending_of, record_of, records_of}
+use Rattle.farm_nodes_turn_offer.proofs.Records.{room_of_step}
+use Rattle.farm_nodes_turn_offer.proofs.Steps.{step_kept}
+use Rattle.farm_nodes_turn_offer.proofs.Leavings.{offer_kept}
 use Rattle.farm_nodes_restart_seat.specs.Taken.{HasForgotten, Took}
 
 -- the record is of the room, and leaves of it what the seat then keeps

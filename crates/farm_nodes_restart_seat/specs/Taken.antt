@@ -2,12 +2,12 @@
 use Rattle.std.specs.Prelude.{◌≡◌, ℕ, List}
 use Rattle.acceptor_log_form.specs.declared.record.Record.{Record}
 use Rattle.acceptor_log_form.specs.declared.record.Record.TheVariants.{Offered}
-use Rattle.rooms_state.specs.Did.{Forgotten}
-use Rattle.rooms_state.specs.Would.{Acted}
-use Rattle.rooms.specs.SeatValue.{SeatValue}
-use Rattle.farm_nodes_acting.specs.declared.stop.Pending.{Pending}
-use Rattle.farm_nodes_acting.specs.declared.stop.Pending.TheVariants.{Act, Offer}
-use Rattle.farm_nodes_offers.specs.Offered.{PutsOffer}
+use Rattle.rooms_seat_state.specs.Did.{Forgotten}
+use Rattle.rooms_seat_state.specs.Would.{Acted}
+use Rattle.farm_nodes_turn_offer.specs.SeatValue.{SeatValue}
+use Rattle.farm_nodes_turn_offer.specs.FarmNodesTurnStepPending.{Pending}
+use Rattle.farm_nodes_turn_offer.specs.FarmNodesTurnStepPending.TheVariants.{Act, Offer}
+use Rattle.farm_nodes_turn_offer.specs.Offered.{PutsOffer}
 use Rattle.farm_nodes_restart_seat.specs.declared.fault.RestartFault.{RestartFault}
 use Rattle.farm_nodes_restart_seat.specs.declared.fault.RestartFault.TheVariants.{NoMemory, Journal, OtherRecords, CellRefused}
 

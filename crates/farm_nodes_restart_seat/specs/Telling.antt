@@ -4,9 +4,9 @@ use Rattle.lang_base.specs.declared.language.Language as language
 use Rattle.lang_base.specs.declared.pass.Pass as pass
 use Rattle.acceptor_log_form.specs.declared.record.Record.{Record}
 use Rattle.offers.specs.declared.parts.Parts.{Parts}
-use Rattle.rooms.specs.SeatValue.{SeatValue}
-use Rattle.farm_nodes_offers.specs.Offered.{PutsOffer}
-use Rattle.farm_nodes_offers.specs.Pending.{IsOfferText}
+use Rattle.farm_nodes_turn_offer.specs.SeatValue.{SeatValue}
+use Rattle.farm_nodes_turn_offer.specs.Offered.{PutsOffer}
+use Rattle.farm_nodes_turn_offer.specs.Pending.{IsOfferText}
 use Rattle.farm_nodes_restart_seat.specs.Taken.{TookOffer}
 
 -- where there is an answer, it tells whether this is so

@@ -6,6 +6,7 @@ mod fault;
 mod taking;
 mod telling;
 
+pub use farm_nodes_turn_offer::{Fault, Halt, Seat};
 pub use fault::RestartFault;
 pub use taking::{forget, is_pending, take};
 pub use telling::is_own_text;

@@ -3,21 +3,20 @@
 ghost use Rattle.std.specs.Prelude.{◌≡◌, ◌↔◌, [], ◌∷◌, ℕ, IsTrue, IfOk, IfErr, OnOk, OnErr};
 ghost use Rattle.std.specs.Arc.{arc_value};
 ghost use Rattle.offers.specs.declared.parts.Parts.{Parts};
-ghost use Rattle.rooms.specs.SeatValue.{IsOneRoom};
-ghost use Rattle.rooms_state.specs.Would.{would, Acted, IsAmong};
-ghost use Rattle.farm_nodes_acting.specs.Noted.{records_of, pending_of};
-ghost use Rattle.farm_nodes_offers.specs.Pending.{IsAsked, IsOfferLeft, IsPendingOn, IsOfferText};
+ghost use Rattle.farm_nodes_turn_offer.specs.SeatValue.{IsOneRoom};
+ghost use Rattle.rooms_seat_state.specs.Would.{would, Acted, IsAmong};
+ghost use Rattle.farm_nodes_turn_offer.specs.Noted.{records_of, pending_of};
+ghost use Rattle.farm_nodes_turn_offer.specs.Pending.{IsAsked, IsOfferLeft, IsPendingOn, IsOfferText};
 ghost use Rattle.farm_nodes_restart_seat.specs.Taken.{HasForgotten, IsOfferFault, IsTakeFault, Took};
 ghost use Rattle.farm_nodes_restart_seat.specs.Telling.{LaysOffer, OffersAgain};
 
 use crate::fault::RestartFault;
 use acceptor_log_form::Record;
-use farm_nodes_acting::{Pending, record_of};
+use farm_nodes_turn_offer::{Pending, Seat, record_of};
 use lang_base::{NoMemory, Pass};
 use offers::{Offer, OfferError};
-use rooms_state::act::Act;
 use rooms_cells::Put;
-use rooms::Seat;
+use rooms_seat_state::act::Act;
 use std::alloc::Global;
 use std::sync::Arc;
 

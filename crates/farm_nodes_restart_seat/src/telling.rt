@@ -1,13 +1,13 @@
 //! Whether a text is that of the offer in a node's own cell.
 
 ghost use Rattle.std.specs.Prelude.{◌≡◌, ◌↔◌, IsTrue};
-ghost use Rattle.farm_nodes_offers.specs.Pending.{IsOfferText};
-ghost use Rattle.farm_nodes_offers.specs.Told.{IsOwnText};
+ghost use Rattle.farm_nodes_turn_offer.specs.Pending.{IsOfferText};
+ghost use Rattle.farm_nodes_turn_offer.specs.Told.{IsOwnText};
 ghost use Rattle.farm_nodes_restart_seat.specs.Telling.{TellsWhether};
 
+use farm_nodes_turn_offer::Seat;
 use lang_base::{NoMemory, Pass};
 use offers::Offer;
-use rooms::Seat;
 use std::alloc::Global;
 
 /// Whether these bytes are the text of the offer that stands in the cell of the seat's node, as the seat has seen it.

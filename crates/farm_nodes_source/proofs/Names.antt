@@ -4,8 +4,8 @@ use Rattle.std.specs.Str.{IsUtf8}
 use Rattle.std.proofs.lemmas.Bool.Decides.{nat_tests}
 use Rattle.std.proofs.lemmas.Str.{IsUtf8-from_ascii}
 use Rattle.std.proofs.lemmas.Str.Ascii.{IsAscii-from_all}
-use Rattle.c_lexer_parts.specs.Bytes.{is_word_byte}
-use Rattle.c_lexer_parts.specs.Lexemes.{IsName}
+use Rattle.c_lexer_lexemes.specs.Bytes.{is_word_byte}
+use Rattle.c_lexer_lexemes.specs.Lexemes.{IsName}
 
 word_low : (b : ℕ) → is_word_byte b ≡ true → b < 128
 word_low b is = grind (arith, nat_tests)

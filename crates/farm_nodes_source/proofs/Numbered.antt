@@ -4,7 +4,7 @@ use Rattle.std.specs.Prelude.{slice_get}
 use Rattle.std.specs.List.{AllByRecursion}
 use Rattle.std.proofs.lemmas.List.{length-map}
 use Rattle.lang_base.specs.declared.program.Named.{Named}
-use Rattle.c_lexer_parts.specs.Lexemes.{IsName}
+use Rattle.c_lexer_lexemes.specs.Lexemes.{IsName}
 use Rattle.c_program.specs.declared.function.Function.{Function}
 use Rattle.c_program.specs.Views.{function_tree}
 use Rattle.cminor_syntax.specs.Trees.{FunctionTree}

@@ -12,23 +12,23 @@ use Rattle.acceptor_log.specs.declared.log.Log.{Log}
 use Rattle.acceptor_log.specs.Acknowledged.{acknowledged}
 use Rattle.lang_base.specs.declared.program.Named.{Named}
 use Rattle.offers.specs.declared.parts.Parts.{Parts}
-use Rattle.rooms.specs.SeatValue.{SeatValue}
-use Rattle.farm_nodes_acting.specs.Served.{IsServed}
-use Rattle.rooms_crash.proofs.Keeping.{goes_same, goes_through}
-use Rattle.farm_nodes_playing.specs.Played.{StaysInTurn}
-use Rattle.farm_nodes_passes.specs.Numbers.{function_of, pass_of}
-use Rattle.farm_nodes_passes.specs.Fours.{Four}
-use Rattle.farm_nodes_passes.specs.Texts.{Texts}
-use Rattle.farm_nodes_passes.specs.declared.which.Which.{Which}
-use Rattle.farm_nodes_passes.specs.declared.which.Which.TheVariants.{Constants, Expressions, Allocation, Order}
-use Rattle.farm_nodes_turn.specs.Turned.{Leaves, StaysIn, OthersStay}
-use Rattle.farm_nodes_turn.specs.Turns.{AtPlace, OfFunction}
-use Rattle.farm_nodes_turn.proofs.Places.{found, mapped}
-use Rattle.farm_nodes_node.specs.declared.halted.Halted.{Halted}
-use Rattle.farm_nodes_node.specs.Held.{IsSoundBy, IsJournalOf, pending_in}
-use Rattle.farm_nodes_node.specs.Stood.{TurnsBy}
-use Rattle.farm_nodes_rounds.specs.After.{After}
-use Rattle.farm_nodes_workers.specs.Taken.{HasTaken}
+use Rattle.farm_nodes_turn_node.specs.SeatValue.{SeatValue}
+use Rattle.farm_nodes_turn_node.specs.Served.{IsServed}
+use Rattle.farm_nodes_turn_node.proofs.Keeping.{goes_same, goes_through}
+use Rattle.farm_nodes_turn_node.specs.Played.{StaysInTurn}
+use Rattle.farm_nodes_turn_node.specs.Numbers.{function_of, pass_of}
+use Rattle.farm_nodes_turn_node.specs.Fours.{Four}
+use Rattle.farm_nodes_turn_node.specs.Texts.{Texts}
+use Rattle.farm_nodes_turn_node.specs.Which.{Which}
+use Rattle.farm_nodes_turn_node.specs.Which.TheVariants.{Constants, Expressions, Allocation, Order}
+use Rattle.farm_nodes_turn_node.specs.Turned.{Leaves, StaysIn, OthersStay}
+use Rattle.farm_nodes_turn_node.specs.Turns.{AtPlace, OfFunction}
+use Rattle.farm_nodes_turn_node.proofs.Places.{found, mapped}
+use Rattle.farm_nodes_turn_node.specs.declared.halted.Halted.{Halted}
+use Rattle.farm_nodes_turn_node.specs.Held.{IsSoundBy, IsJournalOf, pending_in}
+use Rattle.farm_nodes_turn_node.specs.Stood.{TurnsBy}
+use Rattle.farm_nodes_threads_pace.specs.After.{After}
+use Rattle.farm_nodes_threads_teams.specs.Taken.{HasTaken}
 use Rattle.farm_nodes_threads.specs.CameBack.{Keep, CameBackBy}
 
 -- a seat

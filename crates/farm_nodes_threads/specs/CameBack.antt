@@ -1,12 +1,12 @@
 -- What turns leave of a node.
 use Rattle.std.specs.Prelude.{◌≡◌, ◌≢◌, ◌↔◌, ℕ, List, length, Option, Some, None, slice_get}
 use Rattle.acceptor_log.specs.declared.log.Log.{Log}
-use Rattle.farm_nodes_playing.specs.Played.{StaysInTurn}
-use Rattle.farm_nodes_passes.specs.Fours.{Four}
-use Rattle.farm_nodes_node.specs.declared.halted.Halted.{Halted}
-use Rattle.farm_nodes_node.specs.Stood.{TurnsBy}
-use Rattle.farm_nodes_passes.specs.Offers.{ConstantsOffer, ExpressionsOffer, AllocationOffer, OrderOffer}
-use Rattle.farm_nodes_passes.specs.Texts.{Texts, pass_texts}
+use Rattle.farm_nodes_turn_node.specs.Played.{StaysInTurn}
+use Rattle.farm_nodes_turn_node.specs.Fours.{Four}
+use Rattle.farm_nodes_turn_node.specs.declared.halted.Halted.{Halted}
+use Rattle.farm_nodes_turn_node.specs.Stood.{TurnsBy}
+use Rattle.farm_nodes_turn_node.specs.Offers.{ConstantsOffer, ExpressionsOffer, AllocationOffer, OrderOffer}
+use Rattle.farm_nodes_turn_node.specs.Texts.{Texts, pass_texts}
 
 -- The seats are those of the same rooms, which keep their numbers; each has what it had learned and seen.
 pub record Keep {T1 T2 T3 T4 : Type 0} (s t : Four T1 T2 T3 T4) : Type 0 where

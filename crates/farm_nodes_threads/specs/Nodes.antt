@@ -2,8 +2,8 @@
 use Rattle.std.specs.Prelude.{◌≡◌}
 use Rattle.durable_model.specs.declared.disk.Disk as disks
 use Rattle.rooms_hall.specs.declared.hall.Naming as naming
-use Rattle.farm_nodes_passes.specs.Fours.{fours_of}
-use Rattle.farm_nodes_node.specs.declared.farm_node.FarmNode.{FarmNode}
+use Rattle.farm_nodes_turn_node.specs.Fours.{fours_of}
+use Rattle.farm_nodes_turn_node.specs.declared.farm_node.FarmNode.{FarmNode}
 use Rattle.farm_nodes_threads.specs.CameBack.{CameBack}
 
 module _ {D O H : Type 0} {h : naming.Ghosts H} (disk : disks.Ghosts D) where

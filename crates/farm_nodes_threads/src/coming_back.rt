@@ -1,14 +1,13 @@
 ghost use Rattle.std.specs.Prelude.{◌≡◌, ◌<◌, IfErr};
 ghost use Rattle.std.specs.List.{AllByRecursion, AllZip};
-ghost use Rattle.farm_nodes_workers.specs.Back.{nodes_of};
-ghost use Rattle.farm_nodes_node.specs.Asked.{MayBeAsked};
+ghost use Rattle.farm_nodes_threads_teams.specs.Back.{nodes_of};
+ghost use Rattle.farm_nodes_turn_node.specs.Asked.{MayBeAsked};
 ghost use Rattle.farm_nodes_threads.specs.Nodes.{NodeCameBack};
 
 use crate::wrapping::{all_nodes, all_taking, two_spares};
 use durable_model::Disk;
-use farm_nodes_node::FarmNode;
-use farm_nodes_passes::Oracles;
-use farm_nodes_workers::{RunError, run_threads as run};
+use farm_nodes_threads_teams::{RunError, run_threads as run};
+use farm_nodes_turn_node::{FarmNode, Oracles};
 use parallel_validate::Gate;
 use rooms_hall::Naming;
 use std::alloc::Global;

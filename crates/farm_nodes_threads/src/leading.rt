@@ -1,9 +1,7 @@
 //! Whether a node leads a room.
 
-use rooms_numbered::NumberedSeat;
-use farm_nodes_passes::Which;
+use farm_nodes_turn_node::{NumberedSeat, Which, WordSeat};
 use rooms_hall::Naming;
-use rooms_seat::WordSeat;
 
 /// Whether the node's own ballot is under way, and it has promised no higher one.
 fn leads(seat: &WordSeat) -> bool {

@@ -8,3 +8,4 @@ mod taking;
 mod wrapping;
 
 pub use coming_back::run_threads;
+pub use farm_nodes_turn_node::{NumberedSeat, Oracles};

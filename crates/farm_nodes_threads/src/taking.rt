@@ -1,14 +1,13 @@
 //! How a node of a farm takes the turns that it is asked for.
 
 ghost use Rattle.std.specs.Prelude.{◌<◌, ℕ};
-ghost use Rattle.farm_nodes_passes.specs.Numbers.{function_of};
+ghost use Rattle.farm_nodes_turn_node.specs.Numbers.{function_of};
 
 use crate::leading::leads_in;
 use crate::wrapping::Taking;
 use durable_model::Disk;
-use farm_nodes_node::{FarmNode, Turn};
-use farm_nodes_passes::{Oracles, Which};
-use farm_nodes_rounds::{Outcome, TakesTurns};
+use farm_nodes_threads_pace::{Outcome, TakesTurns};
+use farm_nodes_turn_node::{FarmNode, Oracles, Turn, Which};
 use rooms_hall::Naming;
 
 /// How many functions have rooms with numbers.
@@ -35,10 +34,10 @@ fn outcome_of(turn: Turn) -> Outcome {
 
 impl<D: Disk + Drop, O: Oracles + Drop, H: Naming> TakesTurns for Taking<FarmNode<D, O, H>> {
     ghost use Rattle.std.specs.Prelude.{◌≡◌, ◌<◌, ◌/◌, length};
-    ghost use Rattle.farm_nodes_passes.specs.Numbers.{function_of};
-    ghost use Rattle.farm_nodes_passes.specs.Fours.{fours_of};
-    ghost use Rattle.farm_nodes_node.specs.Held.{IsSoundNode};
-    ghost use Rattle.farm_nodes_node.specs.Waiting.{IsWaiting};
+    ghost use Rattle.farm_nodes_turn_node.specs.Numbers.{function_of};
+    ghost use Rattle.farm_nodes_turn_node.specs.Fours.{fours_of};
+    ghost use Rattle.farm_nodes_turn_node.specs.Held.{IsSoundNode};
+    ghost use Rattle.farm_nodes_turn_node.specs.Waiting.{IsWaiting};
     ghost use Rattle.farm_nodes_threads.specs.CameBack.{CameBack};
 
     ghost is_fit = { λ t. IsSoundNode D.is_honest D.seen D.may_leave t.node.log

@@ -2,7 +2,7 @@
 
 ghost use Rattle.std.specs.Prelude.{◌≡◌, ◌≤◌, [], map, vec_len, vec_capacity, IfSome};
 
-use farm_nodes_workers::put;
+use farm_nodes_threads_teams::put;
 use std::alloc::Global;
 
 /// A node that takes turns.

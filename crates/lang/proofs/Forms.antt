@@ -12,7 +12,7 @@ use Rattle.lang_base.specs.declared.program.Global.{Global}
 use Rattle.lang_base.proofs.Forms.{IsForm}
 use Rattle.lang_base.proofs.Parts.{byte_form, number16_form, number32_form, made_form, tested_form, fits_form, below_form, up_to_form, both_form}
 use Rattle.lang_base.proofs.Lists.{counted_form, each_fits, fits_each, tagged_form}
-use Rattle.c_lexer_parts.specs.Lexemes.{IsName}
+use Rattle.c_lexer_lexemes.specs.Lexemes.{IsName}
 use Rattle.lang.specs.Form.{global_limit, cell_limit, function_limit, name_limit, ends_well, GlobalFits, cells_of_all, byte_text, global_text, globals_text, head_text, name_text}
 use Rattle.lang.specs.Reading.{is_name, name, cells, words, global, globals, body, head}
 use Rattle.lang.proofs.NameTests.{name_is, is_a_name, name_bytes}

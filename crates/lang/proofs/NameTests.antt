@@ -6,12 +6,12 @@ use Rattle.std.specs.Option.{is_none}
 use Rattle.std.proofs.lemmas.Bool.{and_parts, and_from, not-true, not_from_false}
 use Rattle.std.proofs.lemmas.Bool.Decides.{nat_tests}
 use Rattle.std.proofs.lemmas.List.Sums.{AllPass-from_list_all, list_all-from_AllPass}
-use Rattle.c_syntax.specs.declared.keyword.Keyword.{Keyword}
-use Rattle.c_lexer_parts.specs.Bytes.{is_word_byte, begins_with_digit}
-use Rattle.c_lexer_parts.specs.Keywords.{keyword_text}
-use Rattle.c_lexer_parts.specs.Lookups.{keyword_of}
-use Rattle.c_lexer_parts.proofs.KeywordTexts.{keyword_is, no_keyword}
-use Rattle.c_lexer_parts.specs.Lexemes.{IsName}
+use Rattle.c_lexer_lexemes.specs.Keyword.{Keyword}
+use Rattle.c_lexer_lexemes.specs.Bytes.{is_word_byte, begins_with_digit}
+use Rattle.c_lexer_lexemes.specs.Keywords.{keyword_text}
+use Rattle.c_lexer_lexemes.specs.Lookups.{keyword_of}
+use Rattle.c_lexer_lexemes.proofs.KeywordTexts.{keyword_is, no_keyword}
+use Rattle.c_lexer_lexemes.specs.Lexemes.{IsName}
 use Rattle.lang.specs.Reading.{is_word, is_name}
 
 none_is : {A : Type 0} (o : Option A) → is_none o ≡ true → o ≡ None

@@ -7,8 +7,8 @@ use Rattle.lang_base.specs.Texts.{counted_text, EachFits}
 use Rattle.lang_base.specs.declared.program.Global.{Global}
 use Rattle.lang_base.specs.declared.program.Named.{Named}
 use Rattle.lang_base.specs.declared.program.Program.{Program}
-use Rattle.c_lexer_parts.specs.Lexemes.{IsName}
-pub use Rattle.lang_parts.specs.Limits.{global_limit, function_limit}
+use Rattle.c_lexer_lexemes.specs.Lexemes.{IsName}
+pub use Rattle.lang_helpers.specs.Limits.{global_limit, function_limit}
 
 -- a program has at most so many cells, of all globals together
 abbrev pub cell_limit : ℕ

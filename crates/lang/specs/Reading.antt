@@ -6,8 +6,8 @@ use Rattle.std.specs.Option.{is_none}
 use Rattle.lang_base.specs.declared.errors.FormError.TheVariants.{NotCanonical, TooLarge}
 use Rattle.lang_base.specs.Reading.{Reading, byte, number, made, tested, below, up_to, both, counted, tagged}
 use Rattle.lang_base.specs.declared.program.Global.{Global}
-use Rattle.c_lexer_parts.specs.Bytes.{is_word_byte, begins_with_digit}
-use Rattle.c_lexer_parts.specs.Lookups.{keyword_of}
+use Rattle.c_lexer_lexemes.specs.Bytes.{is_word_byte, begins_with_digit}
+use Rattle.c_lexer_lexemes.specs.Lookups.{keyword_of}
 use Rattle.lang.specs.Form.{global_limit, cell_limit, function_limit, ends_well, cells_of_all}
 
 -- letters, digits and underscores, one or more

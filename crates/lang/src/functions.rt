@@ -6,7 +6,7 @@ ghost use Rattle.lang.specs.Fronts.{Fronts, functions_text, FunctionsFit};
 
 use crate::names::read_name;
 use lang_base::{FormError, Language, Named, Row};
-use lang_parts::{are_bytes, is_taken};
+use lang_helpers::{are_bytes, is_taken};
 use std::alloc::Global;
 
 /// A function and its name, behind others with other names.

@@ -7,7 +7,7 @@ ghost use Rattle.lang.specs.Form.{ends_well, cell_limit, cells_of_all};
 ghost use Rattle.lang.specs.Reading.{cells, words, global, globals};
 
 use lang_base::{FormError, Row, read_u16, read_u32};
-use lang_parts::{ReadOne, Word, read_so_many};
+use lang_helpers::{ReadOne, Word, read_so_many};
 use std::alloc;
 
 /// The number of a global's cells, behind globals of so many.

@@ -10,7 +10,9 @@ mod names;
 mod programs;
 mod writing;
 
-pub use lang_base::{FormError, Global, Language, Named, NoMemory, Oracle, Pass, PassError, Program, Row, Shown};
+pub use lang_base::{
+    FormError, Global, Language, Named, NoMemory, Oracle, Pass, PassError, Program, Row, Shown,
+};
 pub use laws::one_program;
 pub use names::is_name;
 pub use programs::{read_program, write_program};

@@ -3,13 +3,13 @@
 ghost use Rattle.std.specs.Prelude.{◌≡◌, ◌↔◌, IsTrue};
 ghost use Rattle.std.specs.List.{list_all};
 ghost use Rattle.lang_base.specs.Reading.{Reads, items_of};
-ghost use Rattle.c_lexer_parts.specs.Bytes.{is_word_byte, begins_with_digit};
-ghost use Rattle.c_lexer_parts.specs.Lexemes.{IsName};
+ghost use Rattle.c_lexer_lexemes.specs.Bytes.{is_word_byte, begins_with_digit};
+ghost use Rattle.c_lexer_lexemes.specs.Lexemes.{IsName};
 ghost use Rattle.lang.specs.Reading.{is_word, is_name, name};
 
-use c_lexer_parts::{byte_at, is_word_byte, keyword};
+use c_lexer_lexemes::{byte_at, is_word_byte, keyword};
 use lang_base::{FormError, read_byte};
-use lang_parts::{Byte, read_so_many};
+use lang_helpers::{Byte, read_so_many};
 use std::alloc::Global;
 
 fn has_word_bytes(bytes: &[u8]) -> bool

@@ -11,7 +11,7 @@ use crate::functions::read_functions;
 use crate::head::read_head;
 use crate::writing::{push_functions, push_head};
 use lang_base::{FormError, Language, NoMemory, Program};
-use lang_parts::is_taken;
+use lang_helpers::is_taken;
 use std::alloc::Global;
 
 /// Reads the program whose text is a front of the bytes, and says how long that front is. The first

@@ -7,7 +7,7 @@ ghost use Rattle.lang.specs.Fronts.{functions_text};
 ghost use Rattle.lang.specs.Shorts.{IsShortNamed, IsShortGlobal};
 
 use lang_base::{Language, Named, NoMemory, push_byte, push_u16, push_u32};
-use lang_parts::{Word, WriteOne, push_each};
+use lang_helpers::{Word, WriteOne, push_each};
 
 fn push_global(out: &mut Vec<u8>, global: &lang_base::Global) -> Result<(), NoMemory>
     requires { IsShortGlobal global.now }

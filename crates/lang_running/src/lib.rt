@@ -20,6 +20,7 @@ mod turn;
 
 pub use fresh::push_undefined;
 pub use functions::function_at;
+pub use lang_running_cells::Cells;
 pub use leaving::{Callee, Leaving};
 pub use running::run;
 pub use stepping::Machine;

@@ -2,7 +2,7 @@
 
 ghost use Rattle.std.specs.Prelude.{◌≡◌, ◌&&◌, [], codes, IfOk};
 ghost use Rattle.std.specs.Str.{bytes_eq};
-ghost use Rattle.machine.specs.Frames.{main_number};
+ghost use Rattle.lang_running_cells.specs.Frames.{main_number};
 ghost use Rattle.lang_running.specs.Runs.{state_of, RunFits};
 
 use crate::callers::Callers;

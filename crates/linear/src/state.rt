@@ -1,5 +1,5 @@
 use lang_running::Stop;
-use linear_leaving::{Callers, Standing};
+use linear_run_calls::{Callers, Standing};
 
 /// A run: where it stands, the words of all functions that run, one function's behind its caller's, the callers, and why it
 /// stands still.

@@ -9,7 +9,7 @@ use Rattle.locations.specs.declared.location.Location.{Location}
 use Rattle.locations.specs.contracts.location.LocationPartialEq.TheImpl as location_eq
 use Rattle.locations.specs.contracts.location.LocationEq.TheImpl.Laws as location_laws
 use Rattle.machine.specs.contracts.test.TestPartialEq.TheImpl as test_eq
-use Rattle.lang_parts.proofs.Equal.{Tells, lists_tell, options_tell, number_tells}
+use Rattle.lang_helpers.proofs.Equal.{Tells, lists_tell, options_tell, number_tells}
 use Rattle.machine.proofs.Equal.{location_tells, move_tells, act_tells, test_tells}
 use Rattle.linear_language.specs.contracts.instruction.InstructionPartialEq.TheImpl as instruction_eq
 use Rattle.linear_language.specs.contracts.instruction.InstructionEq.TheImpl.Laws as instruction_laws

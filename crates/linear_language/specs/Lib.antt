@@ -8,3 +8,12 @@ pub mod Noting
 pub mod Forms
 pub mod Equal
 pub mod Growth
+pub use Rattle.machine.specs.Acts
+pub use Rattle.machine.specs.Calls
+pub use Rattle.machine.specs.Data
+pub use Rattle.machine.specs.Fits
+pub use Rattle.machine.specs.Frames
+pub use Rattle.machine.specs.Location
+pub use Rattle.machine.specs.Move
+pub use Rattle.machine.specs.declared.act.Act
+pub use Rattle.machine.specs.declared.test.Test

@@ -5,7 +5,7 @@ ghost use Rattle.std.specs.Prelude.{◌≡◌, IfOk};
 use crate::function::Function;
 use crate::instruction::Instruction;
 use lang_base::{NoMemory, Row};
-use lang_parts::{CopyOne, copy_each};
+use lang_helpers::{CopyOne, copy_each};
 use std::alloc::Global;
 
 /// An equal instruction.

@@ -1,6 +1,6 @@
 use lang_base::Row;
-use machine::{Act, Test};
 use locations::{Location, Move, Register};
+use machine::{Act, Test};
 
 /// An instruction. It goes on to the next, but for a jump that is taken and a return.
 #[derive(PartialEq, Eq, Drop)]

@@ -10,8 +10,8 @@ use crate::function::Function;
 use crate::instruction::Instruction;
 use crate::labels::{no_labels, note};
 use lang_base::{FormError, Row, read_byte, read_u16, read_u32};
+use lang_helpers::{ReadOne, are_bytes, read_so_many};
 use locations::{Location, read_call, read_frame, read_move, read_value};
-use lang_parts::{ReadOne, are_bytes, read_so_many};
 use machine::{read_act, read_test};
 use std::alloc::Global;
 

@@ -7,9 +7,9 @@ ghost use Rattle.linear_language.specs.Spelling.{instruction_text, spelling};
 use crate::function::Function;
 use crate::instruction::Instruction;
 use lang_base::{NoMemory, push_byte, push_u16, push_u32};
-use lang_parts::{WriteOne, push_each};
-use machine::{push_act, push_test};
+use lang_helpers::{WriteOne, push_each};
 use locations::{push_call, push_frame, push_move, push_value};
+use machine::{push_act, push_test};
 
 fn push_instruction(out: &mut Vec<u8>, instruction: &Instruction) -> Result<(), NoMemory>
     requires { HasShortList instruction.now }

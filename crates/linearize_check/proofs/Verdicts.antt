@@ -5,7 +5,7 @@ use Rattle.std.specs.Option.{option_map}
 use Rattle.std.proofs.lemmas.Bool.{both_ways, not-true, not-false}
 use Rattle.std.proofs.lemmas.List.{get_or_default}
 use Rattle.std.proofs.lemmas.List.Elements.{All-from_get_or, recursion_from_All, All-from_recursion}
-use Rattle.machine.specs.Fits.{AreDistinct}
+use Rattle.linearize_check_layout.specs.Fits.{AreDistinct}
 use Rattle.ltl.specs.declared.block.Block.{Block}
 use Rattle.ltl.specs.Function as ltl
 use Rattle.linear_language.specs.Function as linear

@@ -6,8 +6,8 @@ ghost use Rattle.linearize_check_layout.specs.Marks.{IsMarked, AreMarked};
 ghost use Rattle.linearize_check.specs.Faults.{IsFreshAt, IsClosedAt, IsOrderedAt, TellsLowest, lesser};
 
 use lang_base::NoMemory;
-use ltl::{Block, Body};
 use linearize_check_layout::block_at;
+use ltl::{Block, Body};
 use std::alloc::Global;
 
 /// The lower of two nodes, where there are any.

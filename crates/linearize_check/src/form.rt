@@ -7,7 +7,7 @@ ghost use Rattle.lang_base.specs.Texts.{Appends};
 ghost use Rattle.linearize_check.specs.OrderForm.{order, order_text};
 
 use lang_base::{FormError, NoMemory, push_u16, read_u16, read_u16_below};
-use lang_parts::{Half, ReadOne, push_each, read_so_many};
+use linearize_check_layout::{Half, ReadOne, push_each, read_so_many};
 use std::alloc::Global;
 
 /// Reads nodes of so many.

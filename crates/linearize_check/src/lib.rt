@@ -12,6 +12,7 @@ mod verdict;
 mod walk;
 
 pub use base::baseline;
+pub use linear_language::Function;
 pub use linearize_check_layout::{lay_out, reachable, rising};
 pub use order::Order;
 pub use pass::Linearize;

@@ -29,11 +29,7 @@ pub fn arrange(
 }
 
 /// Whether the function can be laid out by the order.
-fn is_order(
-    alloc: Global,
-    input: &ltl::Function,
-    nodes: &[u16],
-) -> Result<bool, NoMemory>
+fn is_order(alloc: Global, input: &ltl::Function, nodes: &[u16]) -> Result<bool, NoMemory>
     ensures { IfOk result (λ yes. IsTrue yes ↔ IsOrder input.now nodes.now) }
 {
     if !lists_nodes(input, nodes) {

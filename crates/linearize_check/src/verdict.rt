@@ -9,7 +9,7 @@ use crate::order::Order;
 use crate::proposals::lists_nodes;
 use crate::walk::walk_along;
 use lang_base::{Fault, NoMemory};
-use locations::Location;
+use linearize_check_layout::Location;
 use std::alloc::Global;
 
 /// What is wrong with the output and the order, if anything is. `Shape`: the order does not begin with the entry, is

@@ -6,8 +6,8 @@ ghost use Rattle.linearize_check.specs.Faults.{BeginsWith, IsLonger, TellsMispla
 use crate::faults::lesser;
 use lang_base::NoMemory;
 use linear_language::Instruction;
-use ltl::Block;
 use linearize_check_layout::push_stretch;
+use ltl::Block;
 use std::alloc::Global;
 
 /// What a walk along the code finds.

@@ -10,10 +10,10 @@ use Rattle.ltl.specs.declared.block.Block.{Block}
 use Rattle.ltl.specs.declared.block.Body.{Body}
 use Rattle.ltl.specs.declared.block.Body.TheVariants as body
 use Rattle.ltl.specs.Function as ltl
-use Rattle.linear_language.specs.declared.instruction.Instruction.{Instruction}
-use Rattle.linear_language.specs.declared.instruction.Instruction.TheVariants.{Goto}
-use Rattle.linear_language.specs.Function as linear
-use Rattle.linear_language.specs.Labels.{labels_of}
+use Rattle.linearize_check_proof.specs.Instruction.{Instruction}
+use Rattle.linearize_check_proof.specs.Instruction.TheVariants.{Goto}
+use Rattle.linearize_check_proof.specs.Function as linear
+use Rattle.linearize_check_proof.specs.Labels.{labels_of}
 use Rattle.linearize_check_proof.specs.Layout.{copies, act_code, is_next, jump, body_code, stretch, order_code}
 
 -- ---- each instruction is in range

@@ -3,3 +3,4 @@ pub mod InRange
 pub mod Tables
 pub mod Searches
 pub mod Risings
+pub use Rattle.machine.proofs.Equal

@@ -8,8 +8,8 @@ use Rattle.machine.specs.declared.act.Act.{Act}
 use Rattle.ltl.specs.declared.block.Block.{Block}
 use Rattle.ltl.specs.declared.block.Body.{Body}
 use Rattle.ltl.specs.declared.block.Body.TheVariants as body
-use Rattle.linear_language.specs.declared.instruction.Instruction.{Instruction}
-use Rattle.linear_language.specs.declared.instruction.Instruction.TheVariants.{Copy, Call, Branch, Label, Goto}
+use Rattle.linearize_check_proof.specs.Instruction.{Instruction}
+use Rattle.linearize_check_proof.specs.Instruction.TheVariants.{Copy, Call, Branch, Label, Goto}
 use Rattle.linearize_check_proof.specs.Layout.{copies, act_code, is_next, jump, body_code, stretch, order_code}
 
 pub copies-append : (ms : List Move) (rest : List Instruction) → copies ms rest ≡ copies ms [] ++ rest

@@ -14,14 +14,14 @@ pub fn lay_out_function(
     alloc: Global,
     input: &ltl::Function,
     order: &[u16],
-) -> Result<linear_language::Function, NoMemory>
+) -> Result<linearize_check_proof::Function, NoMemory>
     requires few { length order.now < 2 ^ 16 }
     requires distinct { AreDistinct order.now }
     ensures { IfOk result (λ output. output ≡ laid_out input.now order.now) }
 {
     let parameters = Vec::from_slice(alloc, input.parameters().as_slice())?;
     let code = lay_out(alloc, input.blocks().as_slice(), order)?;
-    Ok(linear_language::Function::new(
+    Ok(linearize_check_proof::Function::new(
         Row::from_vec(parameters),
         input.slots(),
         Row::from_vec(code),

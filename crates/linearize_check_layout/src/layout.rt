@@ -5,11 +5,10 @@ ghost use Rattle.std.specs.Option.{option_copied};
 ghost use Rattle.linearize_check_proof.specs.Layout.{copies, act_code, is_next, jump, body_code, stretch, order_code};
 
 use lang_base::{NoMemory, Row};
-use linear_language::Instruction;
-use locations::Location;
-use machine::Act;
+use linearize_check_proof::Instruction;
+use locations::{Location, Move};
 use ltl::{Block, Body};
-use locations::Move;
+use machine::Act;
 use std::alloc::Global;
 
 /// The code of the listed nodes' blocks, in order. A number that is no node's has no code.

@@ -10,4 +10,5 @@ mod reach;
 pub use function::lay_out_function;
 pub use layout::{block_at, lay_out, push_stretch};
 pub use listing::rising;
+pub use locations::{Half, Location, ReadOne, push_each, read_so_many};
 pub use reach::reachable;

@@ -10,7 +10,7 @@ use Rattle.lang_base.specs.declared.program.Program.{Program}
 use Rattle.lang_base.specs.Soundness.{Accepted, AcceptedInTurn}
 use Rattle.lang_base.specs.declared.shown.Shown.TheVariants as shown
 use Rattle.lang_base.proofs.Simulation.{keeps-matches}
-use Rattle.machine.specs.Frames.{State, printed, main_number, begins}
+use Rattle.linear_language.specs.Frames.{State, printed, main_number, begins}
 use Rattle.ltl.specs.Function as ltl
 use Rattle.ltl.specs.Meaning as blocks
 use Rattle.linear_language.specs.Function as linear

@@ -6,14 +6,14 @@ use Rattle.std.proofs.lemmas.Bool.{eqb-true}
 use Rattle.lang_base.specs.Machine.{Goes, Ends, Fails, showing, shows, Leads}
 use Rattle.lang_base.specs.declared.program.Named.{Named}
 use Rattle.lang_base.specs.declared.shown.Shown.TheVariants as shown
-use Rattle.locations.specs.declared.location.Location.{Location}
-use Rattle.locations.specs.declared.location.Move.{Move}
-use Rattle.machine.specs.declared.act.Act.{Act}
-use Rattle.machine.specs.declared.test.Test.{Test}
-use Rattle.machine.specs.Data.{Data, moved, all_moved}
-use Rattle.machine.specs.Acts.{holds}
-use Rattle.machine.specs.Frames.{Frame, State, printed, goes_to, returned, comes_back, resumed}
-use Rattle.machine.specs.Calls.{Callee, values_of, waiting, begun, calls}
+use Rattle.linear_language.specs.Location.{Location}
+use Rattle.linear_language.specs.Move.{Move}
+use Rattle.linear_language.specs.Act.{Act}
+use Rattle.linear_language.specs.Test.{Test}
+use Rattle.linear_language.specs.Data.{Data, moved, all_moved}
+use Rattle.linear_language.specs.Acts.{holds}
+use Rattle.linear_language.specs.Frames.{Frame, State, printed, goes_to, returned, comes_back, resumed}
+use Rattle.linear_language.specs.Calls.{Callee, values_of, waiting, begun, calls}
 use Rattle.ltl.proofs.Outputs.{output-all_moved}
 use Rattle.ltl.specs.declared.block.Block.{Block}
 use Rattle.ltl.specs.declared.block.Body.{Body}

@@ -1,7 +1,7 @@
 -- The code of a function's blocks in an order (Leroy 2009, section 10: linearization, with the branches' labels in it).
 use Rattle.std.specs.Prelude.{ℕ, List, [], ◌∷◌, Option, Some, None, Bool, false, nat_eq, slice_get, if◌then◌else◌}
-use Rattle.locations.specs.declared.location.Move.{Move}
-use Rattle.machine.specs.declared.act.Act.{Act}
+use Rattle.linear_language.specs.Move.{Move}
+use Rattle.linear_language.specs.Act.{Act}
 use Rattle.ltl.specs.declared.block.Block.{Block}
 use Rattle.ltl.specs.declared.block.Body.{Body}
 use Rattle.ltl.specs.declared.block.Body.TheVariants as body

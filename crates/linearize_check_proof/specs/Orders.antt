@@ -1,6 +1,6 @@
 -- The orders by which a function can be laid out.
 use Rattle.std.specs.Prelude.{◌≡◌, ℕ, ◌<◌, ◌^◌, List, length, Some, slice_get, All, Contains}
-use Rattle.machine.specs.Fits.{AreDistinct}
+use Rattle.linear_language.specs.Fits.{AreDistinct}
 use Rattle.ltl.specs.Function as ltl
 use Rattle.linearize_check_proof.specs.Layout.{successors_of}
 

@@ -2,7 +2,7 @@
 use Rattle.std.proofs.Common.{◌≡◌, ℕ, List, [], ◌∷◌, Some, drop}
 use Rattle.std.specs.Prelude.{slice_get, Contains}
 use Rattle.lang_base.specs.declared.program.Named.{Named}
-use Rattle.machine.specs.Frames.{Frame, State}
+use Rattle.linear_language.specs.Frames.{Frame, State}
 use Rattle.ltl.specs.Function as ltl
 use Rattle.linear_language.specs.Function as linear
 use Rattle.linearize_check_proof.specs.Layout.{copies, jump, order_code}

@@ -5,3 +5,4 @@
 mod law;
 
 pub use law::laid_out_keeps;
+pub use linear_language::{Function, Instruction};

@@ -7,7 +7,7 @@ use crate::errors::LinkError;
 use crate::functions::link_functions;
 use crate::names::are_names;
 use lang_base::{Language, Pass, Program, Row};
-use lang_parts::copy_globals;
+use lang_helpers::copy_globals;
 use std::alloc::Global;
 
 /// The program of the last outputs: each function is the output of its fourth offer. Nothing is searched:

@@ -6,7 +6,7 @@ ghost use Rattle.cminor_lowering.specs.Programs.{low};
 ghost use Rattle.rtlgen_definition.specs.Gen.{gen};
 ghost use Rattle.rtlgen.specs.Refused.{HasFewNodes};
 ghost use Rattle.cminor_program_ranges.specs.Names.{HaveNames};
-ghost use Rattle.lang.specs.Form.{IsProgram};
+ghost use Rattle.cminor_program_ranges.specs.Form.{IsProgram};
 ghost use Rattle.linear_language.specs.Function.{IsFunction};
 ghost use Rattle.linear_language.specs.Meaning as linear;
 ghost use Rattle.linker.specs.Chains.{linked, names_beside, names_of, AllChained, HasNamesOf, Refusal, WhereWhole};

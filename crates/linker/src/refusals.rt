@@ -25,7 +25,7 @@ fn refusal_of(fault: GenError) -> LinkError
 /// The RTL program of a Cminor program.
 pub(crate) fn rtl_of(
     alloc: Global,
-    program: &Program<cminor_language::Function>,
+    program: &Program<cminor::Function>,
 ) -> Result<Program<rtl_language::Function>, LinkError>
     ensures same { IfOk result (λ made. made ≡ gen program.now) }
     ensures keeps { IfOk result (λ made. Keeps (cminor.run program.now) (rtl.run made)) }

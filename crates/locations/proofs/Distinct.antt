@@ -2,7 +2,7 @@
 use Rattle.std.proofs.Common.{◌≡◌, ◌≢◌, Bool, true, false, List, [], ◌∷◌, ◌++◌, Option, Some, None, refl, sym, ap, subst, ◌∙◌, append_assoc, append-nil}
 use Rattle.std.specs.List.{AllByRecursion, list_any}
 use Rattle.std.proofs.lemmas.Bool.{or_from, or_parts}
-use Rattle.lang_base.specs.Texts.{EachFits}
+use Rattle.lang_helpers.specs.Texts.{EachFits}
 use Rattle.locations.specs.Fits.{AreDistinct}
 
 -- ---- each of a list

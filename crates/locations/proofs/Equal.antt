@@ -4,7 +4,7 @@ use Rattle.std.proofs.lemmas.Bool.{eqb-true, and_parts, false≢true}
 use Rattle.locations.specs.declared.location.Location.TheVariants.{InRegister, InSlot}
 use Rattle.locations.specs.contracts.location.LocationPartialEq.TheImpl as location_eq
 use Rattle.locations.specs.contracts.location.MovePartialEq.TheImpl as move_eq
-pub use Rattle.lang_parts.proofs.Equal.{Tells, tells_decides}
+pub use Rattle.lang_helpers.proofs.Equal.{Tells, tells_decides}
 
 pub location_tells : Tells (location_eq.ghosts).eq
 location_tells (InRegister r) (InRegister q) e = ap (λ n. InRegister n) (eqb-true r q e)

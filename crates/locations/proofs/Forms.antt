@@ -4,21 +4,21 @@ use Rattle.std.specs.Prelude.{◌&&◌, IfSome, not, nat_le}
 use Rattle.std.specs.Int.{w16, to_be_bytes}
 use Rattle.std.specs.List.{AllByRecursion, list_any, list_all}
 use Rattle.std.proofs.lemmas.Bool.{eqb-true, eq-eqb, ltb-true, lt-ltb, leb-true, le-leb, and_parts, and_from, not-true, not_from_false}
-use Rattle.lang_base.specs.declared.errors.FormError.TheVariants.{NotCanonical, TooLarge}
-use Rattle.lang_base.specs.Reading.{byte, number, tested, up_to, both, follow, unknown}
-use Rattle.lang_base.specs.Texts.{EachFits}
-use Rattle.lang_parts.proofs.Forms.{IsForm}
-use Rattle.lang_parts.proofs.Parts.{byte_form, number16_form, made_takes, made_again, made_form, tested_form, fits_form, below_form, up_to_form, both_form}
-use Rattle.lang_parts.proofs.Lists.{counted_form, each_fits, fits_each, HasCode, unknown_takes, follow_form, coded_form, optional_form}
+use Rattle.lang_helpers.specs.FormError.TheVariants.{NotCanonical, TooLarge}
+use Rattle.lang_helpers.specs.Reading.{byte, number, tested, up_to, both, follow, unknown}
+use Rattle.lang_helpers.specs.Texts.{EachFits}
+use Rattle.lang_helpers.proofs.Forms.{IsForm}
+use Rattle.lang_helpers.proofs.Parts.{byte_form, number16_form, made_takes, made_again, made_form, tested_form, fits_form, below_form, up_to_form, both_form}
+use Rattle.lang_helpers.proofs.Lists.{counted_form, each_fits, fits_each, HasCode, unknown_takes, follow_form, coded_form, optional_form}
 use Rattle.locations.specs.declared.location.Location.{Location}
 use Rattle.locations.specs.declared.location.Location.TheVariants.{InRegister, InSlot}
-use Rattle.lang_parts.specs.Limits.{function_number}
-use Rattle.lang_parts.proofs.Limits.{function_number_form}
+use Rattle.lang_helpers.specs.Limits.{function_number}
+use Rattle.lang_helpers.proofs.Limits.{function_number_form}
 use Rattle.locations.specs.Fits.{parameter_limit, slot_limit, function_limit, RegisterFits, ValueFits, LocationFits, TargetFits, HasRegister, MoveFits, MovesFit, CallFits, AreDistinct, ParametersFit}
 use Rattle.locations.specs.Spelling.{byte_text, value_text, location_code, location_body, location_text, locations_text, target_text, move_text, moves_text, call_text, frame_text}
 use Rattle.locations.specs.Reading.{register, value, locations, location, is_slot, one_move, moves, target, arguments, call, same_location, parameter, parameters, lies_within, frame}
 use Rattle.locations.proofs.Distinct.{each_both, both_each, none_same, same_none, keys_of, IsNewKey, each_distinct, distinct_each}
-pub use Rattle.lang_parts.proofs.Limits.{global_form}
+pub use Rattle.lang_helpers.proofs.Limits.{global_form}
 
 pub register_form : IsForm register byte_text RegisterFits
 unfolding register

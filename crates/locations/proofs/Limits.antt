@@ -1,2 +1,2 @@
--- What stands in `lang_parts` and is cited above.
-pub use Rattle.lang_parts.proofs.Limits.{global_form}
+-- What stands in `lang_helpers` and is cited above.
+pub use Rattle.lang_helpers.proofs.Limits.{global_form}

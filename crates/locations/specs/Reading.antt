@@ -2,12 +2,12 @@
 use Rattle.std.specs.Prelude.{ℕ, ◌^◌, Bool, true, false, not, ◌&&◌, List, [], ◌∷◌, Option, nat_lt, nat_le, ◌==◌}
 use Rattle.std.specs.Int.{w16}
 use Rattle.std.specs.List.{list_any, list_all}
-use Rattle.lang_base.specs.declared.errors.FormError.TheVariants.{NotCanonical, TooLarge}
-use Rattle.lang_base.specs.Reading.{Reading, byte, number, made, tested, below, up_to, both, counted, Table, follow, unknown, coded, optional}
+use Rattle.lang_helpers.specs.FormError.TheVariants.{NotCanonical, TooLarge}
+use Rattle.lang_helpers.specs.Reading.{Reading, byte, number, made, tested, below, up_to, both, counted, Table, follow, unknown, coded, optional}
 use Rattle.locations.specs.declared.location.Location.{Location}
 use Rattle.locations.specs.declared.location.Location.TheVariants.{InRegister, InSlot}
 use Rattle.locations.specs.declared.location.Move.{Move}
-use Rattle.lang_parts.specs.Limits.{function_number}
+use Rattle.lang_helpers.specs.Limits.{function_number}
 use Rattle.locations.specs.Fits.{parameter_limit, slot_limit}
 
 unfoldable pub register : Reading ℕ

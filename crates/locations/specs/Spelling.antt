@@ -1,7 +1,7 @@
 -- The bytes of locations and of what is made of them.
 use Rattle.std.specs.Prelude.{ℕ, List, [], ◌∷◌, ◌++◌, Option}
 use Rattle.std.specs.Int.{w16, to_be_bytes}
-use Rattle.lang_base.specs.Texts.{optional_text, counted_text}
+use Rattle.lang_helpers.specs.Texts.{optional_text, counted_text}
 use Rattle.locations.specs.declared.location.Location.{Location}
 use Rattle.locations.specs.declared.location.Location.TheVariants.{InRegister, InSlot}
 use Rattle.locations.specs.declared.location.Move.{Move}

@@ -7,6 +7,7 @@ mod reading;
 mod register;
 mod writing;
 
+pub use lang_helpers::{Half, ReadOne, push_each, read_global, read_so_many};
 pub use location::{Location, Move};
 pub use reading::{read_call, read_frame, read_move, read_moves, read_register, read_value};
 pub use register::{REGISTER_COUNT, Register};

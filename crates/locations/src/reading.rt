@@ -3,13 +3,15 @@
 
 ghost use Rattle.std.specs.Prelude.{◌≡◌, ◌&&◌};
 ghost use Rattle.std.specs.List.{list_all};
-ghost use Rattle.lang_base.specs.Reading.{IsRead, Reads, items_of};
+ghost use Rattle.lang_helpers.specs.Reading.{IsRead, Reads, items_of};
 ghost use Rattle.locations.specs.Reading.{register, value, location, is_slot, one_move, moves, target, arguments, call, parameter, parameters, lies_within, frame};
 
 use crate::location::{Location, Move};
 use crate::register::{REGISTER_COUNT, Register};
-use lang_base::{FormError, Row, read_byte, read_count, read_u16, read_u16_below};
-use lang_parts::{ReadOne, read_function_number, read_so_many};
+use lang_helpers::{
+    FormError, ReadOne, Row, read_byte, read_count, read_function_number, read_so_many, read_u16,
+    read_u16_below,
+};
 use std::alloc::Global;
 
 /// A register.

@@ -1,14 +1,13 @@
 //! Writers of locations and of what is made of them: each appends the text.
 
 ghost use Rattle.std.specs.Prelude.{◌≤◌, length};
-ghost use Rattle.lang_base.specs.Texts.{Appends};
+ghost use Rattle.lang_helpers.specs.Texts.{Appends};
 ghost use Rattle.locations.specs.Fits.{move_limit, argument_limit, parameter_limit};
 ghost use Rattle.locations.specs.Spelling.{location_text, locations_text, move_text, moves_text, value_text, target_text, call_text, frame_text};
 
 use crate::location::{Location, Move};
 use crate::register::Register;
-use lang_base::{NoMemory, push_byte, push_u16};
-use lang_parts::{WriteOne, push_each};
+use lang_helpers::{NoMemory, WriteOne, push_byte, push_each, push_u16};
 
 /// A register, or none.
 pub fn push_value(out: &mut Vec<u8>, value: Option<Register>) -> Result<(), NoMemory>

@@ -5,14 +5,14 @@ use Rattle.std.specs.Cmp.{IsEquivalence}
 use Rattle.std.specs.Cmp.Lexicographic.{pointwise}
 use Rattle.std.proofs.lemmas.Bool.{eqb-true, and_parts, false≢true}
 use Rattle.std.proofs.lemmas.Cmp.{nat_eq_equiv, on_equiv, and_equiv, lists_equiv}
-use Rattle.locations.specs.declared.location.Location.{Location}
-use Rattle.locations.specs.declared.location.Move.{Move}
-use Rattle.locations.specs.contracts.location.LocationPartialEq.TheImpl as location_eq
-use Rattle.locations.specs.contracts.location.LocationEq.TheImpl.Laws as location_laws
-use Rattle.locations.specs.contracts.location.MovePartialEq.TheImpl as move_eq
+use Rattle.machine.specs.Location.{Location}
+use Rattle.machine.specs.Move.{Move}
+use Rattle.machine.specs.LocationPartialEq.TheImpl as location_eq
+use Rattle.machine.specs.LocationEq.TheImpl.Laws as location_laws
+use Rattle.machine.specs.MovePartialEq.TheImpl as move_eq
 use Rattle.machine.specs.contracts.act.ActPartialEq.TheImpl as act_eq
 use Rattle.machine.specs.contracts.test.TestPartialEq.TheImpl as test_eq
-use Rattle.lang_parts.proofs.Equal.{Tells, lists_tell, options_tell, number_tells}
+use Rattle.lang_helpers.proofs.Equal.{Tells, lists_tell, options_tell, number_tells}
 use Rattle.machine.proofs.Equal.{location_tells, move_tells, act_tells, test_tells}
 use Rattle.ltl.specs.contracts.block.BodyPartialEq.TheImpl as body_eq
 use Rattle.ltl.specs.contracts.block.BlockPartialEq.TheImpl as block_eq

@@ -4,12 +4,12 @@ use Rattle.std.specs.Int.{w16, to_be_bytes}
 use Rattle.std.specs.List.{flat_map}
 use Rattle.lang_base.specs.Reading.{both, follow}
 use Rattle.lang_base.proofs.Forms.{IsForm}
-use Rattle.lang_parts.specs.Graphs.{node}
-use Rattle.lang_parts.proofs.Graphs.{node_form, TwoNodesFit, two_nodes_form, AllNodesFit, GraphFits, nodes_form, graph_of_form}
+use Rattle.lang_helpers.specs.Graphs.{node}
+use Rattle.lang_helpers.proofs.Graphs.{node_form, TwoNodesFit, two_nodes_form, AllNodesFit, GraphFits, nodes_form, graph_of_form}
 use Rattle.lang_base.proofs.Parts.{made_takes, made_again, made_form, both_form}
 use Rattle.lang_base.proofs.Lists.{HasCode, TakesBehind, follow_form, coded_form, tagged_form}
-use Rattle.locations.specs.declared.location.Location.{Location}
-use Rattle.locations.specs.declared.location.Move.{Move}
+use Rattle.machine.specs.Location.{Location}
+use Rattle.machine.specs.Move.{Move}
 use Rattle.machine.specs.declared.act.Act.{Act}
 use Rattle.machine.specs.declared.act.Act.TheVariants.{Constant, Operate, Load, Store, Put}
 use Rattle.machine.specs.declared.test.Test.{Test}

@@ -1,14 +1,14 @@
 -- Functions of LTL as plain data, and those that are in range (Leroy 2009, section 3.3).
 use Rattle.std.specs.Prelude.{ℕ, ◌<◌, ◌≤◌, List, [], length, Option, Some, None}
 use Rattle.std.specs.List.{AllByRecursion}
-use Rattle.locations.specs.declared.location.Location.{Location}
-use Rattle.locations.specs.declared.location.Move.{Move}
+use Rattle.machine.specs.Location.{Location}
+use Rattle.machine.specs.Move.{Move}
 use Rattle.machine.specs.declared.act.Act.{Act}
 use Rattle.machine.specs.Fits.{ParametersFit, MovesFit, ActFits, CallFits, TestFits, ValueFits, slot_limit, move_limit, argument_limit}
 use Rattle.ltl.specs.declared.block.Block.{Block}
 use Rattle.ltl.specs.declared.block.Body.{Body}
 use Rattle.ltl.specs.declared.block.Body.TheVariants.{Go, Call, Branch, Return}
-pub use Rattle.lang_parts.specs.Limits.{node_limit}
+pub use Rattle.lang_helpers.specs.Limits.{node_limit}
 
 -- where the parameters lie, the number of slots, the entry, and the blocks by node number
 pub record FunctionData : Type 0 where

@@ -5,3 +5,10 @@ pub mod Spelling
 pub mod Reading
 pub mod Forms
 pub mod Equal
+pub use Rattle.machine.specs.Acts
+pub use Rattle.machine.specs.Calls
+pub use Rattle.machine.specs.Data
+pub use Rattle.machine.specs.Frames
+pub use Rattle.machine.specs.declared.act.Act
+pub use Rattle.machine.specs.declared.arguments.Arguments
+pub use Rattle.machine.specs.declared.test.Test

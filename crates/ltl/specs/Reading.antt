@@ -1,9 +1,9 @@
 -- How a function of LTL is read.
 use Rattle.std.specs.Prelude.{ℕ, List, [], ◌∷◌, Some, None}
-use Rattle.lang_parts.specs.Graphs.{node, graph_of}
+use Rattle.lang_helpers.specs.Graphs.{node, graph_of}
 use Rattle.lang_base.specs.Reading.{Reading, made, both, more, Table, follow, coded, tagged}
-use Rattle.locations.specs.declared.location.Location.{Location}
-use Rattle.locations.specs.declared.location.Move.{Move}
+use Rattle.machine.specs.Location.{Location}
+use Rattle.machine.specs.Move.{Move}
 use Rattle.machine.specs.Reading.{moves, call, asked, value, act, frame}
 use Rattle.ltl.specs.declared.block.Block.{Block}
 use Rattle.ltl.specs.declared.block.Body.{Body}

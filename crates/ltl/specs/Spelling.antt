@@ -3,7 +3,7 @@ use Rattle.std.specs.Prelude.{ℕ, List, [], ◌∷◌, ◌++◌, Option, Some, 
 use Rattle.std.specs.Int.{w16, to_be_bytes}
 use Rattle.lang_base.specs.Texts.{counted_text}
 use Rattle.machine.specs.declared.act.Act.{Act}
-use Rattle.locations.specs.declared.location.Move.{Move}
+use Rattle.machine.specs.Move.{Move}
 use Rattle.machine.specs.Spelling.{act_code, act_body, call_text, moves_text, test_text, value_text, frame_text}
 use Rattle.ltl.specs.declared.block.Block.{Block}
 use Rattle.ltl.specs.declared.block.Body.{Body}

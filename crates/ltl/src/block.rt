@@ -1,6 +1,5 @@
-use machine::{Act, Test};
-use locations::{Location, Move, Register};
 use lang_base::Row;
+use machine::{Act, Location, Move, Register, Test};
 
 /// A node of the graph: moves, and then what it does and where it goes on.
 #[derive(PartialEq, Eq, Drop)]

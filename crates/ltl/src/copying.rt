@@ -4,8 +4,8 @@ ghost use Rattle.std.specs.Prelude.{◌≡◌, IfOk};
 
 use crate::block::{Block, Body};
 use crate::function::Function;
-use lang_parts::{CopyOne, copy_each};
 use lang_base::{NoMemory, Row};
+use lang_helpers::{CopyOne, copy_each};
 use std::alloc::Global;
 
 fn copy_body(alloc: Global, body: &Body) -> Result<Body, NoMemory>

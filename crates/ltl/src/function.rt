@@ -1,6 +1,6 @@
 use crate::block::Block;
-use locations::Location;
 use lang_base::Row;
+use machine::Location;
 use std::marker::Model;
 
 /// A function: where its parameters lie, how many slots it has, the node where it begins, and its

@@ -2,8 +2,8 @@ use crate::copying::copy_function;
 use crate::function::Function;
 use crate::reading::read_function;
 use crate::writing::push_function;
-use lang_parts::{Form, read_front, write_whole};
 use lang_base::{FormError, Language, NoMemory};
+use lang_helpers::{Form, read_front, write_whole};
 use std::alloc::Global;
 
 /// LTL, the third language of the pipeline.
@@ -39,7 +39,7 @@ impl Form for Ltl {
 impl Language for Ltl {
     ghost use Rattle.std.specs.Prelude.{◌≡◌, ◌≢◌, ◌≤◌, ℕ, List, ◌++◌, length, take, true, ◌↔◌, OnOk, OnErr, IfOk, IfErr};
     ghost use Rattle.lang_base.proofs.Forms.{one_text};
-    ghost use Rattle.lang_parts.proofs.Equal.{tells_decides};
+    ghost use Rattle.lang_helpers.proofs.Equal.{tells_decides};
     ghost use Rattle.ltl.specs.Equal.{same_laws, function_tells};
     ghost use Rattle.ltl.specs.Forms.{function_form};
     ghost use Rattle.ltl.specs.Function.{IsFunction};

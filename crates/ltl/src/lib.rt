@@ -12,4 +12,5 @@ mod writing;
 
 pub use block::{Block, Body};
 pub use function::Function;
+pub use lang_helpers::beside;
 pub use language::Ltl;

@@ -7,9 +7,8 @@ ghost use Rattle.ltl.specs.Reading.{going, calling, branch, plain, body, block, 
 use crate::block::{Block, Body};
 use crate::function::Function;
 use lang_base::{FormError, Row, read_byte};
-use locations::{Location, Move, read_call, read_frame, read_moves, read_value};
-use lang_parts::{ReadOne, are_bytes, read_ends, read_node, read_so_many};
-use machine::{read_act, read_test};
+use lang_helpers::{ReadOne, are_bytes, read_ends, read_node, read_so_many};
+use machine::{Location, Move, read_act, read_call, read_frame, read_moves, read_test, read_value};
 use std::alloc::Global;
 
 /// The successor, and the moves behind the instruction.

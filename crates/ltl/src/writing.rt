@@ -9,10 +9,11 @@ ghost use Rattle.ltl.specs.Spelling.{any_code, any_body, going_text, body_text, 
 
 use crate::block::{Block, Body};
 use crate::function::Function;
-use machine::{Act, Test, push_act, push_test};
-use locations::{Move, push_call, push_frame, push_moves, push_value};
 use lang_base::{NoMemory, push_byte, push_u16};
-use lang_parts::{WriteOne, push_each};
+use lang_helpers::{WriteOne, push_each};
+use machine::{
+    Act, Move, Test, push_act, push_call, push_frame, push_moves, push_test, push_value,
+};
 
 /// The successor, and the moves behind the instruction.
 fn push_going(out: &mut Vec<u8>, successor: u16, after: &[Move]) -> Result<(), NoMemory>

@@ -21,7 +21,7 @@ use Rattle.machine.specs.declared.arguments.Arguments.{Arguments}
 use Rattle.machine.specs.declared.arguments.Arguments.TheVariants.{One, Two}
 use Rattle.machine.specs.declared.act.Act.{Act}
 use Rattle.machine.specs.declared.act.Act.TheVariants.{Constant, Operate, Load, Store, Put}
-use Rattle.lang_parts.specs.Limits.{global}
+use Rattle.locations.specs.Limits.{global}
 use Rattle.machine.specs.Fits.{GlobalFits, ArgumentsFit, ActFits, TestFits}
 use Rattle.machine.specs.Spelling.{arguments_text, test_text, act_code, act_body}
 use Rattle.machine.specs.Reading.{arguments, asked, constant, operation, load, store, put, acts, act}

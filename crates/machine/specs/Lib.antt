@@ -8,3 +8,12 @@ pub mod Reading
 pub mod Words
 pub mod AfterCalls
 pub mod AtEntry
+pub use Rattle.locations.specs.Limits
+pub use Rattle.locations.specs.contracts.location.LocationEq
+pub use Rattle.locations.specs.contracts.location.LocationPartialEq
+pub use Rattle.locations.specs.contracts.location.MovePartialEq
+pub use Rattle.locations.specs.declared.location.Location
+pub use Rattle.locations.specs.declared.location.Move
+pub use Rattle.ints.specs.Codes
+pub use Rattle.ints.specs.MachineTable
+pub use Rattle.ints.specs.declared.operators.Op

@@ -10,7 +10,7 @@ use Rattle.machine.specs.declared.arguments.Arguments.TheVariants.{One, Two}
 use Rattle.machine.specs.declared.act.Act.{Act}
 use Rattle.machine.specs.declared.act.Act.TheVariants.{Constant, Operate, Load, Store, Put}
 use Rattle.machine.specs.declared.test.Test.{Test}
-use Rattle.lang_parts.specs.Limits.{global}
+use Rattle.locations.specs.Limits.{global}
 unfoldable pub use Rattle.locations.specs.Reading.{register, value, location, one_move, moves, call, frame}
 
 -- one register, or two

@@ -9,8 +9,7 @@ use crate::arguments::Arguments;
 use crate::test::Test;
 use ints::{Cond, Op};
 use lang_base::{FormError, read_byte, read_u32};
-use lang_parts::read_global;
-use locations::{read_register, read_value};
+use locations::{read_global, read_register, read_value};
 
 /// One register or two.
 #[tactic(auto, unfolding(crate::specs::Reading::arguments))]

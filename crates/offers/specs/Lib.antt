@@ -3,3 +3,4 @@ pub mod Text
 pub mod Reading
 pub mod Fronts
 pub mod OneFunction
+pub mod Proposals

@@ -1,11 +1,10 @@
 //! The certificate: at each marked node, that each live register's word lies in the register's location.
 
 use crate::register_set::RegisterSet;
-use alloc_check_rules::Equation;
-use alloc_check_verdict::EquationLists;
-use rtl_passes_marks::NodeRow;
+use alloc_check::{Equation, EquationLists};
 use lang_base::{NoMemory, Row};
-use oracle_alloc_blocks::Assignment;
+use oracle_graphs::Assignment;
+use rtl_passes_marks::NodeRow;
 use std::alloc::Global;
 
 fn equations_at(

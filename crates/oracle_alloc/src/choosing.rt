@@ -7,10 +7,10 @@ use crate::interference::Interference;
 use crate::register_set::RegisterSet;
 use lang_base::NoMemory;
 use locations::{Location, REGISTER_COUNT, Register as MachineRegister};
-use oracle_alloc_blocks::Assignment;
+use oracle_graphs::Assignment;
 use rand_core::utils::NextWord;
 use rand_pcg::Pcg32;
-use rtl_parts::Register;
+use rtl_acts::Register;
 use std::alloc::Global;
 
 /// The registers of the machine that words may lie in, by their bits: r2 to r7, since r0 and r1 hold

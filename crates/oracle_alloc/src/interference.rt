@@ -4,8 +4,8 @@ use crate::liveness::set_live_behind;
 use crate::parts::{copied_by, defined_by};
 use crate::register_set::RegisterSet;
 use lang_base::NoMemory;
+use rtl_acts::Register;
 use rtl_language::{Function, Instruction};
-use rtl_parts::Register;
 use std::alloc::Global;
 
 /// For each register those that are live where it is defined, and the registers that are live over a

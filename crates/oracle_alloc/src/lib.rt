@@ -14,7 +14,9 @@ mod propose;
 mod register_set;
 mod worth;
 
+pub use alloc_check::{Alloc, Equation, EquationLists};
 pub use liveness::live_before;
+pub use oracle_graphs::Joined;
 pub use parts::{copied_by, defined_by, edges_of};
 pub use propose::AllocOracle;
 pub use register_set::RegisterSet;

@@ -2,8 +2,8 @@
 
 use crate::register_set::RegisterSet;
 use oracle_graphs::Edges;
+use rtl_acts::{Act, Arguments, Register};
 use rtl_language::Instruction;
-use rtl_parts::{Act, Arguments, Register};
 
 /// Where an instruction can go on.
 pub fn edges_of(instruction: &Instruction) -> Edges {

@@ -1,5 +1,5 @@
 use lang_base::NoMemory;
-use rtl_parts::Register;
+use rtl_acts::Register;
 use std::alloc::Global;
 
 /// A set of registers below a number, as bits: 64 of them a word.

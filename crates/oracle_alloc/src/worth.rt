@@ -4,8 +4,8 @@ use crate::register_set::RegisterSet;
 use lang_base::NoMemory;
 use rand_core::utils::NextWord;
 use rand_pcg::Pcg32;
+use rtl_acts::{Act, Register};
 use rtl_language::Instruction;
-use rtl_parts::{Act, Register};
 use std::alloc::Global;
 
 fn is_live(live: &[RegisterSet], node: u16, register: Register) -> bool {

@@ -1,11 +1,9 @@
 //! The certificate: at each marked node, that each live register's word lies where its web does.
 
 use lang_base::{NoMemory, Row};
-use oracle_alloc_blocks::Assignment;
-use alloc_check_rules::Equation;
-use alloc_check_verdict::EquationLists;
+use oracle_graphs::Assignment;
+use oracle_webs::{Equation, EquationLists, Places, Webs};
 use rtl_passes_marks::NodeRow;
-use oracle_webs::{Places, Webs};
 use std::alloc::Global;
 
 fn equations_at(

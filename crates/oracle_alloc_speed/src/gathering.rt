@@ -3,10 +3,9 @@
 use crate::classes::Classes;
 use lang_base::NoMemory;
 use oracle_graphs::weight_at;
-use oracle_webs::{Places, Webs};
-use oracle_alloc::defined_by;
+use oracle_webs::{Places, Webs, defined_by};
+use rtl_acts::{Act, Arguments, Register};
 use rtl_language::{Function, Instruction};
-use rtl_parts::{Act, Arguments, Register};
 use std::alloc::Global;
 
 /// Whether what the instruction does is not needed where its target is not.

@@ -4,8 +4,7 @@ use crate::classes::Classes;
 use crate::limits::MOST_LOOKS;
 use lang_base::NoMemory;
 use oracle_graphs::weight_at;
-use oracle_webs::{Places, Webs};
-use oracle_alloc::{copied_by, defined_by};
+use oracle_webs::{Places, Webs, copied_by, defined_by};
 use rtl_language::Instruction;
 use std::alloc::Global;
 

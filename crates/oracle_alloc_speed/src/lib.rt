@@ -13,4 +13,5 @@ mod placing;
 mod propose;
 mod slots;
 
+pub use oracle_webs::AllocOracle;
 pub use propose::AllocSpeed;

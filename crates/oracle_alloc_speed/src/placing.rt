@@ -5,7 +5,7 @@ use crate::classes::Classes;
 use crate::lists::Lists;
 use lang_base::NoMemory;
 use locations::{Location, REGISTER_COUNT, Register as MachineRegister};
-use oracle_alloc_blocks::Assignment;
+use oracle_graphs::Assignment;
 use std::alloc::Global;
 
 /// All registers of the machine, by their bits.

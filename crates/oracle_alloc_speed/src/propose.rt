@@ -9,12 +9,10 @@ use crate::placing::{ALL, BESIDE_SLOTS, in_registers};
 use crate::slots::give_slots;
 use lang_base::{NoMemory, Oracle, Row};
 use ltl::Function;
-use oracle_alloc_blocks::{Assignment, are_distinct, blocks_for, locations_of};
-use oracle_graphs::{Edges, depths_of};
-use alloc_check::Alloc;
-use oracle_alloc::{AllocOracle, edges_of, live_before};
-use alloc_check_verdict::EquationLists;
-use oracle_webs::{Places, Webs, all_renamed, webs_of};
+use oracle_graphs::{Assignment, Edges, are_distinct, blocks_for, depths_of, locations_of};
+use oracle_webs::{
+    Alloc, AllocOracle, EquationLists, Places, Webs, all_renamed, edges_of, live_before, webs_of,
+};
 use rand_core::utils::NextWord;
 use rand_pcg::Pcg32;
 use rtl_language::Instruction;

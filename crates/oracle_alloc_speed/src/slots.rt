@@ -3,7 +3,7 @@
 use crate::lists::Lists;
 use lang_base::NoMemory;
 use locations::Location;
-use oracle_alloc_blocks::Assignment;
+use oracle_graphs::Assignment;
 use std::alloc::Global;
 
 /// The lowest and the highest node of a list.

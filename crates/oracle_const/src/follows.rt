@@ -1,5 +1,4 @@
-use constprop_check::ConstProp;
-use constprop_check_rules::{Fact, fold, value, written};
+use constprop_check::{ConstProp, Fact, fold, value, written};
 use oracle_facts::Follows;
 use rtl_language::Instruction;
 

@@ -1,11 +1,10 @@
 ghost use Rattle.oracle_facts.specs.Ranges.{MayBecome};
 
 use crate::numbering::Numbering;
-use cse_check::Cse;
-use cse_check_rules::{Equation, RightSide, kills, made, share};
+use cse_check::{Cse, Equation, RightSide, kills, made, share};
 use oracle_facts::Follows;
+use rtl_acts::Register;
 use rtl_language::Instruction;
-use rtl_parts::Register;
 
 impl Follows for Numbering {
     type Of = Cse;

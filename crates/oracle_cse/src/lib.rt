@@ -8,4 +8,6 @@ mod numbering;
 mod propose;
 mod worthwhile;
 
+pub use cse_check::{Cse, EquationLists};
+pub use oracle_alloc::AllocOracle;
 pub use propose::{CseOracle, CseSpeed};

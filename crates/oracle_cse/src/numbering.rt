@@ -1,10 +1,10 @@
 //! Which equations are worth to be kept: those whose right side, or for a copy whose register, is
 //! looked for at some other node.
 
-use cse_check_rules::{Equation, RightSide, rank};
+use cse_check::{Equation, RightSide, rank};
 use lang_base::NoMemory;
+use rtl_acts::{Act, Register};
 use rtl_language::Instruction;
-use rtl_parts::{Act, Register};
 use std::alloc::Global;
 use std::collections::BTreeMap;
 

@@ -1,7 +1,7 @@
 use oracle_alloc::{RegisterSet, copied_by, edges_of};
 use oracle_facts::Chooses;
+use rtl_acts::Register;
 use rtl_language::Instruction;
-use rtl_parts::Register;
 
 /// The registers that are live before each node, by which changes are chosen.
 #[derive(Drop)]

@@ -8,9 +8,8 @@ use crate::follows::{FactOf, Follows};
 use crate::unreached::give_each;
 use lang_base::{NoMemory, Row};
 use rtl_language::{Function, Instruction, copy_instruction};
-use rtl_passes::with_nodes;
-use rtl_passes_filled::list_at;
-use rtl_passes_marks::NodeRow;
+use rtl_passes_facts::list_at;
+use rtl_passes_marks::{NodeRow, with_nodes};
 use std::alloc::Global;
 
 /// The function with those changes that are chosen among those that the facts allow, and the facts at marked nodes.

@@ -1,7 +1,6 @@
 use crate::chains::chained;
 use lang_base::{NoMemory, Oracle};
-use linearize_check::{Linearize, Order, arrange};
-use linearize_check_layout::rising;
+use linearize_check::{Linearize, Order, arrange, rising};
 use ltl::Function;
 use rand_core::utils::NextWord;
 use rand_pcg::Pcg32;

@@ -9,5 +9,8 @@ mod places;
 mod webs;
 
 pub use names::all_renamed;
+pub use oracle_alloc::{
+    Alloc, AllocOracle, Equation, EquationLists, copied_by, defined_by, edges_of, live_before,
+};
 pub use places::{Places, Span};
 pub use webs::{Webs, webs_of};

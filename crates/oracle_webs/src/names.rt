@@ -1,14 +1,14 @@
 //! Instructions with webs in the place of registers.
 
 ghost use Rattle.std.specs.Prelude.{◌≡◌, ◌<◌, ℕ, All, IfOk, length};
-ghost use Rattle.rtl_parts.specs.Fits.{ArgumentsFit, ActFits, RegisterFits, TargetFits, TestFits};
+ghost use Rattle.rtl_acts.specs.Fits.{ArgumentsFit, ActFits, RegisterFits, TargetFits, TestFits};
 ghost use Rattle.rtl_language.specs.Function.{CallFits, InstructionFits};
 
 use crate::places::Places;
 use crate::webs::Webs;
 use lang_base::{NoMemory, Row};
+use rtl_acts::{Act, Arguments, Register, Test};
 use rtl_language::Instruction;
-use rtl_parts::{Act, Arguments, Register, Test};
 use std::alloc::Global;
 
 /// The names at a node.

@@ -1,7 +1,7 @@
 use crate::limits::MOST_PLACES;
 use lang_base::NoMemory;
 use oracle_alloc::RegisterSet;
-use rtl_parts::Register;
+use rtl_acts::Register;
 use std::alloc::Global;
 
 /// Where registers are live, as places by number: those before a node stand one behind another, their registers rising.

@@ -3,10 +3,9 @@
 use crate::limits::MOST_WEBS;
 use crate::places::{Places, Span};
 use lang_base::NoMemory;
-use oracle_alloc::{defined_by, edges_of};
-use oracle_graphs::Joined;
+use oracle_alloc::{Joined, defined_by, edges_of};
+use rtl_acts::Register;
 use rtl_language::{Function, Instruction};
-use rtl_parts::Register;
 use std::alloc::Global;
 
 /// The web at each place, of what each node defines, and of each parameter; and how many webs there are.

@@ -6,11 +6,11 @@ use Rattle.paxos_core_world.specs.KeptPart.{KeptPart, vote}
 use Rattle.paxos_core_world.specs.declared.msg.Msg.{Msg}
 use Rattle.paxos_core_world.specs.declared.msg.Msg.TheVariants.{Prepare, Promise, Propose, Accepted}
 use Rattle.paxos_core_world.specs.Quorum.{Sizes}
-use Rattle.paxos_core_law.specs.Acceptor.{promises, accepts}
+use Rattle.paxos_core_late_offers.specs.Acceptor.{promises, accepts}
 use Rattle.paxos_core.specs.Call.{Call, Offer, Start, Proposal, On, Restart, has_ballot, after_call}
-use Rattle.paxos_core_law.specs.Learner.{notes_promise, notes_vote}
-use Rattle.paxos_core_law.specs.NodeState.{NodeState, node_with}
-use Rattle.paxos_core_law.specs.Proposer.{proposal, after_answer}
+use Rattle.paxos_core_late_offers.specs.Learner.{notes_promise, notes_vote}
+use Rattle.paxos_core_late_offers.specs.NodeState.{NodeState, node_with}
+use Rattle.paxos_core_late_offers.specs.Proposer.{proposal, after_answer}
 
 -- it is node i of a room with these quorums, and has a place for a vote of each of seven
 pub record IsNode (i : ℕ) (z : Sizes) (s : NodeState) : Type 0 where

@@ -4,10 +4,10 @@ use Rattle.std.proofs.lemmas.Bool.{eq-eqb, cases_eq, cond_both}
 use Rattle.paxos_core_world.specs.Quorum.{Sizes, AreQuorums, is_accept_quorum, IsAcceptQuorum}
 use Rattle.paxos_core_world.specs.declared.vote.Vote.{Vote}
 use Rattle.paxos_core_world.proofs.Quorums.{member_of, accept_quorum_grows}
-use Rattle.paxos_core_law.specs.Learner.{notes_vote, learned_with, voted, after_vote}
-use Rattle.paxos_core_law.specs.NodeState.{NodeState, nothing_noted}
-use Rattle.paxos_core_law.specs.Notes.{note_of, is_under, has_voted}
-use Rattle.paxos_core_law.proofs.NoteLemmas.{note_of-set, note_of-nothing, voted_vote}
+use Rattle.paxos_core_late_offers.specs.Learner.{notes_vote, learned_with, voted, after_vote}
+use Rattle.paxos_core_late_offers.specs.NodeState.{NodeState, nothing_noted}
+use Rattle.paxos_core_late_offers.specs.Notes.{note_of, is_under, has_voted}
+use Rattle.paxos_core_late_offers.proofs.NoteLemmas.{note_of-set, note_of-nothing, voted_vote}
 use Rattle.paxos_core.specs.LearnsAtOnce.{LearnsAtOnce}
 
 -- ---- where nothing is noted

@@ -2,3 +2,8 @@ pub mod CallLemmas
 pub mod LearnsLemmas
 pub mod QuorumLemmas
 pub mod ScheduleLemmas
+pub use Rattle.paxos_core_late_offers.proofs.LateLemmas
+pub use Rattle.paxos_core_late_offers.proofs.Reopens
+pub use Rattle.paxos_core_late_offers.proofs.Theorem
+pub use Rattle.paxos_core_late_offers.proofs.BelongsLemmas
+pub use Rattle.paxos_core_late_offers.proofs.WorldLemmas

@@ -7,13 +7,13 @@ use Rattle.paxos_core_world.specs.Quorum.{Sizes, AreQuorums, is_accept_quorum, I
 use Rattle.paxos_core_world.specs.declared.msg.Msg.{Msg}
 use Rattle.paxos_core_world.specs.declared.msg.Msg.TheVariants.{Prepare, Promise, Propose, Accepted}
 use Rattle.paxos_core_world.specs.declared.vote.Vote.{Vote}
-use Rattle.paxos_core_law.specs.Acceptor.{is_vote, promises, accepts}
+use Rattle.paxos_core_late_offers.specs.Acceptor.{is_vote, promises, accepts}
 use Rattle.paxos_core.specs.Call.{Call, Offer, Start, Proposal, On, Restart, has_ballot, after_call, after_calls}
-use Rattle.paxos_core_law.specs.Learner.{is_at_most, notes_promise, notes_vote, votes_with, learned_with, voted}
+use Rattle.paxos_core_late_offers.specs.Learner.{is_at_most, notes_promise, notes_vote, votes_with, learned_with, voted}
 use Rattle.paxos_core.specs.Quorums.{HasNoRestart, HasQuorum, WasQuorum, LearnsFromQuorum, QuorumIsLearned}
-use Rattle.paxos_core_law.specs.NodeState.{NodeState, node_with}
-use Rattle.paxos_core_law.specs.Notes.{note_of, has_voted}
-use Rattle.paxos_core_law.specs.Proposer.{proposal, after_answer}
+use Rattle.paxos_core_late_offers.specs.NodeState.{NodeState, node_with}
+use Rattle.paxos_core_late_offers.specs.Notes.{note_of, has_voted}
+use Rattle.paxos_core_late_offers.specs.Proposer.{proposal, after_answer}
 use Rattle.paxos_core.proofs.CallLemmas.{IsNode, node_with-is, after_call-is}
 use Rattle.paxos_core.specs.LearnsAtOnce.{LearnsAtOnce}
 use Rattle.paxos_core.proofs.LearnsLemmas.{learns_on, nothing_to_learn}

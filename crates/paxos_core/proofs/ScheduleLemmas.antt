@@ -11,23 +11,23 @@ use Rattle.paxos_core_world.specs.World.{World, Has, opening}
 use Rattle.paxos_core_world.specs.declared.msg.Msg.{Msg}
 use Rattle.paxos_core_world.specs.declared.msg.Msg.TheVariants.{Prepare, Promise, Propose, Accepted}
 use Rattle.paxos_core_world.proofs.Quorums.{member_of}
-use Rattle.paxos_core_model.specs.Agreement.{IsSettledRun}
-use Rattle.paxos_core_model.proofs.Reopens.{reached-append, run_append}
-use Rattle.paxos_core_model.proofs.Theorem.{holds, runs_learn_one}
-use Rattle.paxos_core_law.specs.Acceptor.{promises, accepts}
-use Rattle.paxos_core_law.specs.Belongs.{Belongs}
+use Rattle.paxos_core_late_offers.specs.Agreement.{IsSettledRun}
+use Rattle.paxos_core_late_offers.proofs.Reopens.{reached-append, run_append}
+use Rattle.paxos_core_late_offers.proofs.Theorem.{holds, runs_learn_one}
+use Rattle.paxos_core_late_offers.specs.Acceptor.{promises, accepts}
+use Rattle.paxos_core_late_offers.specs.Belongs.{Belongs}
 use Rattle.paxos_core.specs.Call.{Call, Offer, Start, Proposal, On, Restart, has_ballot, after_call, answer_to, taken_by}
-use Rattle.paxos_core_law.specs.NodeState.{NodeState}
-use Rattle.paxos_core_law.specs.Proposer.{next_ballot, started, next_proposal, propose_message}
-use Rattle.paxos_core_law.specs.Reached.{IsReached}
+use Rattle.paxos_core_late_offers.specs.NodeState.{NodeState}
+use Rattle.paxos_core_late_offers.specs.Proposer.{next_ballot, started, next_proposal, propose_message}
+use Rattle.paxos_core_late_offers.specs.Reached.{IsReached}
 use Rattle.paxos_core.specs.Play.{AllLearned}
 use Rattle.paxos_core.specs.Schedule.{Room, opened, NodeCall, put_node, played, WasSent, IsSchedule, steps_of, IsPlayed, AllLearnOne}
-use Rattle.paxos_core_law.specs.Taken.{proposes, taken_by_start, learns_from}
-use Rattle.paxos_core_law.specs.Takes.{Takes, AreStepsOf}
-use Rattle.paxos_core_law.proofs.BelongsLemmas.{belongs_with, belongs_after_others}
+use Rattle.paxos_core_late_offers.specs.Taken.{proposes, taken_by_start, learns_from}
+use Rattle.paxos_core_late_offers.specs.Takes.{Takes, AreStepsOf}
+use Rattle.paxos_core_late_offers.proofs.BelongsLemmas.{belongs_with, belongs_after_others}
 use Rattle.paxos_core.proofs.CallLemmas.{IsNode, node_with-is, after_call-is}
-use Rattle.paxos_core_law.proofs.ReachedLemmas.{learned_one}
-use Rattle.paxos_core_law.proofs.TakesLemmas.{offer_takes, start_takes, propose_takes, on_takes, restart_takes}
+use Rattle.paxos_core_late_offers.proofs.ReachedLemmas.{learned_one}
+use Rattle.paxos_core_late_offers.proofs.TakesLemmas.{offer_takes, start_takes, propose_takes, on_takes, restart_takes}
 
 -- ---- each call takes its steps
 

@@ -3,10 +3,10 @@ use Rattle.std.specs.Prelude.{nat_le, Bool, if◌then◌else◌, List, [], ◌�
 use Rattle.paxos_core_world.specs.Step.{Label}
 use Rattle.paxos_core_world.specs.declared.msg.Msg.{Msg}
 use Rattle.paxos_core_world.specs.declared.msg.Msg.TheVariants.{Prepare}
-use Rattle.paxos_core_law.specs.Message.{reply, after_message}
-use Rattle.paxos_core_law.specs.NodeState.{NodeState, offered, restarted}
-use Rattle.paxos_core_law.specs.Proposer.{next_ballot, started, proposal, after_proposal}
-use Rattle.paxos_core_law.specs.Taken.{taken_by_offer, taken_by_start, taken_by_propose, taken_by_restart, taken_on}
+use Rattle.paxos_core_late_offers.specs.Message.{reply, after_message}
+use Rattle.paxos_core_late_offers.specs.NodeState.{NodeState, offered, restarted}
+use Rattle.paxos_core_late_offers.specs.Proposer.{next_ballot, started, proposal, after_proposal}
+use Rattle.paxos_core_late_offers.specs.Taken.{taken_by_offer, taken_by_start, taken_by_propose, taken_by_restart, taken_on}
 
 -- a call of offer, start or propose, of on with a message, or of restart with what the node keeps
 pub data Call : Type 0 where

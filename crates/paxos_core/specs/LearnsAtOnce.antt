@@ -3,7 +3,7 @@
 use Rattle.std.specs.Prelude.{ℕ, List, Option, IsSome}
 use Rattle.paxos_core_world.specs.Quorum.{Sizes, IsAcceptQuorum}
 use Rattle.paxos_core_world.specs.declared.vote.Vote.{Vote}
-use Rattle.paxos_core_law.specs.Notes.{has_voted}
+use Rattle.paxos_core_late_offers.specs.Notes.{has_voted}
 
 -- once an accept quorum is noted with votes of one ballot, a value is learned
 abbrev pub LearnsAtOnce : Sizes → List (Option Vote) → Option ℕ → Type 0

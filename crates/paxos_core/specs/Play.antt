@@ -5,7 +5,7 @@ use Rattle.paxos_core_world.specs.Quorum.{Sizes, AreQuorums}
 use Rattle.paxos_core_world.specs.Settled.{Settled}
 use Rattle.paxos_core_world.specs.Step.{Label}
 use Rattle.paxos_core_world.specs.World.{Has}
-use Rattle.paxos_core_model.specs.Agreement.{IsSettledRun, world_of}
+use Rattle.paxos_core_late_offers.specs.Agreement.{IsSettledRun, world_of}
 use Rattle.paxos_core.specs.Schedule.{NodeCall, opened, played, IsSchedule, steps_of}
 
 -- the steps that were taken are a run from settled kept parts, and at its end each node has learned v, and none

@@ -3,8 +3,8 @@ use Rattle.std.specs.Prelude.{◌≡◌, ℕ, ◌≤◌, List, [], ◌∷◌, �
 use Rattle.paxos_core_world.specs.KeptPart.{KeptPart, vote}
 use Rattle.paxos_core_world.specs.Quorum.{Sizes, AreQuorums, IsAcceptQuorum}
 use Rattle.paxos_core.specs.Call.{Call, Offer, Start, Proposal, On, Restart, after_calls}
-use Rattle.paxos_core_law.specs.NodeState.{NodeState, node_with}
-use Rattle.paxos_core_law.specs.Notes.{note_of, has_voted}
+use Rattle.paxos_core_late_offers.specs.NodeState.{NodeState, node_with}
+use Rattle.paxos_core_late_offers.specs.Notes.{note_of, has_voted}
 
 -- none of the calls is a restart
 abbrev pub HasNoRestart : List Call → Type 0

@@ -9,9 +9,9 @@ use Rattle.paxos_core_world.specs.Settled.{Settled}
 use Rattle.paxos_core_world.specs.Step.{Label}
 use Rattle.paxos_core_world.specs.World.{Has, shown, opening}
 use Rattle.paxos_core_world.specs.declared.msg.Msg.{Msg}
-use Rattle.paxos_core_law.specs.Belongs.{Belongs}
+use Rattle.paxos_core_late_offers.specs.Belongs.{Belongs}
 use Rattle.paxos_core.specs.Call.{Call, Offer, Start, Proposal, On, Restart, after_call, answer_to, taken_by}
-use Rattle.paxos_core_law.specs.NodeState.{NodeState, node_with}
+use Rattle.paxos_core_late_offers.specs.NodeState.{NodeState, node_with}
 
 -- a room's nodes, and all messages that were sent
 pub record Room : Type 0 where

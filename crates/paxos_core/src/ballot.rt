@@ -1,5 +1,5 @@
 ghost use Rattle.std.specs.Prelude.{◌≡◌, ◌≤◌, ◌<◌, SomeIff};
-ghost use Rattle.paxos_core_law.specs.NextBallot.{if_ballot, least_above};
+ghost use Rattle.paxos_core_late_offers.specs.NextBallot.{if_ballot, least_above};
 
 /// The least ballot above `floor` that node `me` of `count` owns, if there is one.
 pub fn next_ballot(me: u8, count: u8, floor: u16) -> Option<u16>

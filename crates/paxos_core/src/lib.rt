@@ -11,13 +11,13 @@ mod theorem;
 
 pub use error::CoreError;
 pub use node::Node;
+pub use paxos_core_late_offers::settled::settled;
+pub use paxos_core_late_offers::step::{Act, Step};
+pub use paxos_core_late_offers::{late_offers, step};
 pub use paxos_core_world::ballot::owns;
 pub use paxos_core_world::kept::Kept;
 pub use paxos_core_world::msg::Msg;
 pub use paxos_core_world::quorum::Quorums;
-pub use paxos_core_model::settled::settled;
-pub use paxos_core_law::{step::Act, step::Step};
-pub use paxos_core_world::vote::Vote;
-pub use paxos_core_late_offers::late_offers;
 pub use paxos_core_world::vote;
+pub use paxos_core_world::vote::Vote;
 pub use theorem::agreement;

@@ -3,27 +3,27 @@ ghost use Rattle.paxos_core.specs.Noting.{TakesItsSteps};
 ghost use Rattle.paxos_core_world.specs.KeptPart.{nothing_kept};
 ghost use Rattle.paxos_core_world.specs.World.{World};
 ghost use Rattle.paxos_core_world.specs.declared.msg.Msg.TheVariants.{Accepted, Prepare, Promise};
-ghost use Rattle.paxos_core_law.specs.declared.step.Act.TheVariants.{Propose};
-ghost use Rattle.paxos_core_law.specs.Acceptor.{promise_to, after_prepare, vote_for, after_propose, is_vote};
-ghost use Rattle.paxos_core_law.specs.Learner.{after_promise, after_vote, is_at_most, is_report};
-ghost use Rattle.paxos_core_law.specs.Message.{reply, after_message};
-ghost use Rattle.paxos_core_law.specs.NextBallot.{IsLeastAbove, IsSpent};
+ghost use Rattle.paxos_core_late_offers.specs.Act.TheVariants.{Propose};
+ghost use Rattle.paxos_core_late_offers.specs.Acceptor.{promise_to, after_prepare, vote_for, after_propose, is_vote};
+ghost use Rattle.paxos_core_late_offers.specs.Learner.{after_promise, after_vote, is_at_most, is_report};
+ghost use Rattle.paxos_core_late_offers.specs.Message.{reply, after_message};
+ghost use Rattle.paxos_core_late_offers.specs.NextBallot.{IsLeastAbove, IsSpent};
 ghost use Rattle.paxos_core_world.specs.Quorum.{AreQuorums, Sizes};
-ghost use Rattle.paxos_core_law.specs.Notes.{note_of};
-ghost use Rattle.paxos_core_law.specs.NodeState.{new_node, node_with, offered, restarted};
-ghost use Rattle.paxos_core_law.specs.Belongs.{Belongs};
-ghost use Rattle.paxos_core_law.specs.Taken.{taken_by_offer, taken_by_start, taken_by_propose, taken_by_restart, taken_on, LearnsAtMost};
-ghost use Rattle.paxos_core_law.specs.Takes.{Takes, TakesSteps, TakesStepsOn};
-ghost use Rattle.paxos_core_law.specs.Proposer.{floor_of, next_ballot, started, next_proposal, proposal, after_proposal};
-ghost use Rattle.paxos_core_law.specs.Would.{next_promise, next_start, next_vote, would};
+ghost use Rattle.paxos_core_late_offers.specs.Notes.{note_of};
+ghost use Rattle.paxos_core_late_offers.specs.NodeState.{new_node, node_with, offered, restarted};
+ghost use Rattle.paxos_core_late_offers.specs.Belongs.{Belongs};
+ghost use Rattle.paxos_core_late_offers.specs.Taken.{taken_by_offer, taken_by_start, taken_by_propose, taken_by_restart, taken_on, LearnsAtMost};
+ghost use Rattle.paxos_core_late_offers.specs.Takes.{Takes, TakesSteps, TakesStepsOn};
+ghost use Rattle.paxos_core_late_offers.specs.Proposer.{floor_of, next_ballot, started, next_proposal, proposal, after_proposal};
+ghost use Rattle.paxos_core_late_offers.specs.Would.{next_promise, next_start, next_vote, would};
 
 use crate::ballot::next_ballot;
 use crate::error::CoreError;
 use crate::tally::{count_promises, count_votes, highest_report};
+use paxos_core_late_offers::step::{Act, Step};
 use paxos_core_world::kept::Kept;
 use paxos_core_world::msg::Msg;
-use paxos_core_world::{quorum::Quorums, quorum::is_accept_quorum, quorum::is_promise_quorum};
-use paxos_core_law::{step::Act, step::Step};
+use paxos_core_world::quorum::{Quorums, is_accept_quorum, is_promise_quorum};
 use paxos_core_world::vote::Vote;
 use std::marker::Model;
 
@@ -47,7 +47,7 @@ pub struct Node {
 impl Model for Node {
     ghost use Rattle.std.specs.Prelude.{◌<◌};
     ghost use Rattle.paxos_core.specs.LearnsAtOnce.{LearnsAtOnce};
-    ghost use Rattle.paxos_core_law.specs.NodeState.{NodeState};
+    ghost use Rattle.paxos_core_late_offers.specs.NodeState.{NodeState};
     ghost use Rattle.paxos_core_world.specs.Quorum.{AreQuorums};
 
     ghost Value = { NodeState };

@@ -1,5 +1,5 @@
 ghost use Rattle.std.specs.Prelude.{◌≡◌, ◌≤◌, length};
-ghost use Rattle.paxos_core_law.specs.Notes.{has_promised, has_voted, is_under, higher, highest_below};
+ghost use Rattle.paxos_core_late_offers.specs.Notes.{has_promised, has_voted, is_under, higher, highest_below};
 ghost use Rattle.paxos_core_world.specs.Quorum.{count_below};
 
 use paxos_core_world::vote::Vote;

@@ -1,10 +1,10 @@
 ghost use Rattle.paxos_core.specs.Play.{SchedulesShowAllLearned};
 ghost use Rattle.paxos_core.specs.Quorums.{LearnsFromQuorum, QuorumIsLearned};
 ghost use Rattle.paxos_core.specs.Schedule.{SchedulesAreRuns, SchedulesLearnOne};
-ghost use Rattle.paxos_core_model.specs.Agreement.{NothingIsSettled, ReopeningsGoOn, ReopeningsLearnAsBefore, RunsChooseOne, RunsLearnOne, RunsStaySettled};
-ghost use Rattle.paxos_core_model.specs.OneCode.{FarmReopeningsGoOn, FarmReopeningsLinkAsBefore, RunsChain, RunsLinkOne};
+ghost use Rattle.paxos_core_late_offers.specs.Agreement.{NothingIsSettled, ReopeningsGoOn, ReopeningsLearnAsBefore, RunsChooseOne, RunsLearnOne, RunsStaySettled};
+ghost use Rattle.paxos_core_late_offers.specs.OneCode.{FarmReopeningsGoOn, FarmReopeningsLinkAsBefore, RunsChain, RunsLinkOne};
 
-use paxos_core_model::{promises::one_code, promises::one_code_again, promises::one_value, promises::one_value_again};
+use paxos_core_late_offers::promises::{one_code, one_code_again, one_value, one_value_again};
 
 /// The theorem of agreement, over every list of steps and of calls; it does nothing.
 pub fn agreement()

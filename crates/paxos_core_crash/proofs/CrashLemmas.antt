@@ -7,11 +7,11 @@ use Rattle.paxos_core_world.specs.Run.{IsRun, reached}
 use Rattle.paxos_core_world.specs.Settled.{Settled}
 use Rattle.paxos_core_world.specs.Step.{Label}
 use Rattle.paxos_core_world.specs.World.{World, Has, opening}
-use Rattle.paxos_core_model.proofs.Reopens.{reached-append, run_append, reopenings_learn_as_before}
-use Rattle.paxos_core_model.proofs.Theorem.{runs_stay_settled}
-use Rattle.paxos_core_model.specs.Agreement.{world_of}
-use Rattle.paxos_core_law.specs.Reached.{IsReached}
-use Rattle.paxos_core_law.proofs.WorldLemmas.{grows_by}
+use Rattle.paxos_core_theorem.proofs.Reopens.{reached-append, run_append, reopenings_learn_as_before}
+use Rattle.paxos_core_theorem.proofs.Theorem.{runs_stay_settled}
+use Rattle.paxos_core_theorem.specs.Agreement.{world_of}
+use Rattle.paxos_core_node_steps.specs.Reached.{IsReached}
+use Rattle.paxos_core_node_steps.proofs.WorldLemmas.{grows_by}
 use Rattle.paxos_core_crash.specs.Crash.{IsRecorded, IsLeftByCrash, IsLeftByRun, CrashesAreRuns, CrashesLearnAsBefore, CrashesLeaveSettled}
 use Rattle.paxos_core_crash.proofs.OthersLemmas.{IsAheadBut, ahead_of_none, others_steps, run_ahead}
 use Rattle.paxos_core_crash.proofs.SameLemmas.{settled_as, run_as}

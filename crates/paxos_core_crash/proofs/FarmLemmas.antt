@@ -8,9 +8,9 @@ use Rattle.paxos_core_world.specs.Run.{IsRun, reached}
 use Rattle.paxos_core_world.specs.Step.{Label, Offers, Allowed, after}
 use Rattle.paxos_core_world.specs.World.{World, Has}
 use Rattle.paxos_core_invariant.specs.Invariant.{Invariant}
-use Rattle.paxos_core_model.proofs.Chains.{learned_offered, offer_fixed}
-use Rattle.paxos_core_model.proofs.Theorem.{holds}
-use Rattle.paxos_core_law.specs.Reached.{IsReached}
+use Rattle.paxos_core_theorem.proofs.Chains.{learned_offered, offer_fixed}
+use Rattle.paxos_core_theorem.proofs.Theorem.{holds}
+use Rattle.paxos_core_node_steps.specs.Reached.{IsReached}
 use Rattle.paxos_core_crash.specs.Crash.{IsRecorded}
 use Rattle.paxos_core_crash.specs.FarmCrash.{CrashesLinkAsBefore}
 use Rattle.paxos_core_crash.proofs.CrashLemmas.{crashes_learn_as_before}

@@ -8,19 +8,19 @@ use Rattle.paxos_core_world.specs.Step.{Label, Offers, after}
 use Rattle.paxos_core_world.specs.World.{World}
 use Rattle.paxos_core_world.specs.declared.msg.Msg.{Msg}
 use Rattle.paxos_core_world.specs.declared.msg.Msg.TheVariants.{Prepare, Propose}
-use Rattle.paxos_core_model.proofs.Reopens.{reached-append, run_append}
-use Rattle.paxos_core_law.specs.Acceptor.{promises, accepts}
-use Rattle.paxos_core_law.specs.Belongs.{Belongs}
-use Rattle.paxos_core_law.specs.NodeState.{NodeState, offered}
-use Rattle.paxos_core_law.specs.Proposer.{next_ballot, started, proposal, after_answer}
-use Rattle.paxos_core_law.specs.Reached.{IsReached}
-use Rattle.paxos_core_law.specs.Takes.{Takes, AreStepsOf}
-use Rattle.paxos_core_law.specs.Would.{after_act}
-use Rattle.paxos_core_law.specs.declared.step.Act.{Act}
-use Rattle.paxos_core_law.specs.declared.step.Act.TheVariants as act
-use Rattle.paxos_core_law.proofs.TakesLemmas.{offer_takes, start_takes, propose_anywhere, on_takes}
-use Rattle.paxos_core_law.proofs.WorldLemmas.{grows}
-use Rattle.paxos_core_law.proofs.WouldLemmas.{told_is_done}
+use Rattle.paxos_core_theorem.proofs.Reopens.{reached-append, run_append}
+use Rattle.paxos_core_node_steps.specs.Acceptor.{promises, accepts}
+use Rattle.paxos_core_node_steps.specs.Belongs.{Belongs}
+use Rattle.paxos_core_node_steps.specs.NodeState.{NodeState, offered}
+use Rattle.paxos_core_node_steps.specs.Proposer.{next_ballot, started, proposal, after_answer}
+use Rattle.paxos_core_node_steps.specs.Reached.{IsReached}
+use Rattle.paxos_core_node_steps.specs.Takes.{Takes, AreStepsOf}
+use Rattle.paxos_core_node_steps.specs.Would.{after_act}
+use Rattle.paxos_core_node_steps.specs.declared.step.Act.{Act}
+use Rattle.paxos_core_node_steps.specs.declared.step.Act.TheVariants as act
+use Rattle.paxos_core_node_steps.proofs.TakesLemmas.{offer_takes, start_takes, propose_anywhere, on_takes}
+use Rattle.paxos_core_node_steps.proofs.WorldLemmas.{grows}
+use Rattle.paxos_core_node_steps.proofs.WouldLemmas.{told_is_done}
 use Rattle.paxos_core_late_offers.specs.LateOffer.{unoffered}
 use Rattle.paxos_core_crash.specs.Crash.{IsRecorded, Waiting, Nothing, ToOffer, ToDo, WasSent, journal_of, JournalsAreRecorded}
 use Rattle.paxos_core_crash.proofs.CrashLemmas.{reached_later}

@@ -10,8 +10,8 @@ use Rattle.paxos_core_world.specs.World.{World, Has, put}
 use Rattle.paxos_core_world.specs.declared.msg.Msg.{Msg}
 use Rattle.paxos_core_world.specs.declared.msg.Msg.TheVariants.{Promise, Propose}
 use Rattle.paxos_core_invariant.proofs.Moves.{proposal_was}
-use Rattle.paxos_core_law.specs.Takes.{IsStepOf, AreStepsOf}
-use Rattle.paxos_core_law.proofs.WorldLemmas.{grows, nodes_of_others, proposed_before, proposes_not_of_others}
+use Rattle.paxos_core_node_steps.specs.Takes.{IsStepOf, AreStepsOf}
+use Rattle.paxos_core_node_steps.proofs.WorldLemmas.{grows, nodes_of_others, proposed_before, proposes_not_of_others}
 
 -- world v is w, but that other nodes than j have done more
 pub record IsAheadBut (n j : ℕ) (w v : World) : Type 0 where

@@ -8,13 +8,13 @@ use Rattle.paxos_core_world.specs.Settled.{Settled}
 use Rattle.paxos_core_world.specs.Step.{Label}
 use Rattle.paxos_core_world.specs.World.{World, Has, opening}
 use Rattle.paxos_core_world.specs.declared.msg.Msg.TheVariants.{Prepare, Propose}
-use Rattle.paxos_core_model.specs.Agreement.{LearnsAs}
-use Rattle.paxos_core_law.specs.NodeState.{NodeState}
-use Rattle.paxos_core_law.specs.Reached.{IsReached}
-use Rattle.paxos_core_law.specs.Takes.{AreStepsOf}
-use Rattle.paxos_core_law.specs.Would.{would, kept_by}
-use Rattle.paxos_core_law.specs.declared.step.Act.{Act}
-use Rattle.paxos_core_law.specs.declared.step.Act.TheVariants as act
+use Rattle.paxos_core_theorem.specs.Agreement.{LearnsAs}
+use Rattle.paxos_core_node_steps.specs.NodeState.{NodeState}
+use Rattle.paxos_core_node_steps.specs.Reached.{IsReached}
+use Rattle.paxos_core_node_steps.specs.Takes.{AreStepsOf}
+use Rattle.paxos_core_node_steps.specs.Would.{would, kept_by}
+use Rattle.paxos_core_node_steps.specs.declared.step.Act.{Act}
+use Rattle.paxos_core_node_steps.specs.declared.step.Act.TheVariants as act
 use Rattle.paxos_core_late_offers.specs.LateOffer.{BelongsWithLateOffer}
 
 -- node i's journal holds this: what i keeps in the world, once it has taken steps of its own that it may take there

@@ -3,7 +3,7 @@ use Rattle.std.specs.Prelude.{ℕ, List}
 use Rattle.paxos_core_world.specs.Farm.{Farm, FarmLabel, Offer, IsPass, IsFarmRun, KeepsOffers, farm_opening, farm_reached}
 use Rattle.paxos_core_world.specs.KeptPart.{KeptPart}
 use Rattle.paxos_core_world.specs.Quorum.{Sizes}
-use Rattle.paxos_core_model.specs.OneCode.{LinksAs}
+use Rattle.paxos_core_theorem.specs.OneCode.{LinksAs}
 use Rattle.paxos_core_crash.specs.Crash.{IsLeftByCrash}
 
 -- each room is left so, by function, pass and node, and these are the offers that were made

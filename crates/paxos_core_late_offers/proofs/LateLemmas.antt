@@ -1,28 +1,28 @@
 -- A node whose offer the run has at the latest with the proposal of its own number.
 use Rattle.std.proofs.Common.{◌≡◌, ℕ, ◌<◌, ◌≤◌, ◌⊎◌, Bool, true, false, cond, ◌&&◌, not, List, [], ◌∷◌, ◌++◌, Option, Some, None, is_some, is_none, IfSome, refl, sym, ap, subst, inl, inr}
 use Rattle.std.proofs.lemmas.Bool.{and_parts}
-use Rattle.paxos_core_world.specs.KeptPart.{KeptPart, with_offer, without_offer, vote}
-use Rattle.paxos_core_world.specs.Quorum.{Sizes}
-use Rattle.paxos_core_world.specs.Run.{reached}
-use Rattle.paxos_core_world.specs.Step.{Label, Offers, after}
-use Rattle.paxos_core_world.specs.World.{World, Has}
-use Rattle.paxos_core_world.specs.declared.msg.Msg.{Msg}
-use Rattle.paxos_core_world.specs.declared.msg.Msg.TheVariants.{Prepare, Promise, Propose, Accepted}
-use Rattle.paxos_core_world.specs.declared.vote.Vote.{Vote}
-use Rattle.paxos_core_model.proofs.Reopens.{reached-append, run_append}
-use Rattle.paxos_core_law.specs.Acceptor.{promises, accepts}
-use Rattle.paxos_core_law.specs.Belongs.{Belongs}
+use Rattle.paxos_core_node_steps.specs.KeptPart.{KeptPart, with_offer, without_offer, vote}
+use Rattle.paxos_core_node_steps.specs.Quorum.{Sizes}
+use Rattle.paxos_core_node_steps.specs.Run.{reached}
+use Rattle.paxos_core_node_steps.specs.PaxosCoreWorldStep.{Label, Offers, after}
+use Rattle.paxos_core_node_steps.specs.World.{World, Has}
+use Rattle.paxos_core_node_steps.specs.Msg.{Msg}
+use Rattle.paxos_core_node_steps.specs.Msg.TheVariants.{Prepare, Promise, Propose, Accepted}
+use Rattle.paxos_core_node_steps.specs.Vote.{Vote}
+use Rattle.paxos_core_node_steps.proofs.Reopens.{reached-append, run_append}
+use Rattle.paxos_core_node_steps.specs.Acceptor.{promises, accepts}
+use Rattle.paxos_core_node_steps.specs.Belongs.{Belongs}
 use Rattle.paxos_core_late_offers.specs.LateOffer.{unoffered, BelongsWithLateOffer, proposes_own, owes_offer, taken_late_by_propose, TakesLate, TakesStepsLate, OffersMayBeLate, OthersLeaveIt}
-use Rattle.paxos_core_law.specs.Learner.{notes_promise, notes_vote}
-use Rattle.paxos_core_law.specs.Message.{reply, after_message}
-use Rattle.paxos_core_law.specs.NodeState.{NodeState, offered, restarted}
-use Rattle.paxos_core_law.specs.Notes.{highest_below}
-use Rattle.paxos_core_law.specs.Proposer.{next_ballot, started, choice, may_propose, proposal_under, propose_message, proposal, after_answer, after_proposal}
-use Rattle.paxos_core_law.specs.Reached.{IsReached}
-use Rattle.paxos_core_law.specs.Taken.{taken_by_start, proposes, taken_by_propose, taken_by_restart, taken_on}
-use Rattle.paxos_core_law.specs.Takes.{Takes, AreStepsOf}
-use Rattle.paxos_core_law.proofs.BelongsLemmas.{belongs_kept, belongs_after_others}
-use Rattle.paxos_core_law.proofs.TakesLemmas.{offer_takes, start_takes, propose_anywhere, on_takes, restart_takes}
+use Rattle.paxos_core_node_steps.specs.Learner.{notes_promise, notes_vote}
+use Rattle.paxos_core_node_steps.specs.Message.{reply, after_message}
+use Rattle.paxos_core_node_steps.specs.NodeState.{NodeState, offered, restarted}
+use Rattle.paxos_core_node_steps.specs.Notes.{highest_below}
+use Rattle.paxos_core_node_steps.specs.Proposer.{next_ballot, started, choice, may_propose, proposal_under, propose_message, proposal, after_answer, after_proposal}
+use Rattle.paxos_core_node_steps.specs.Reached.{IsReached}
+use Rattle.paxos_core_node_steps.specs.Taken.{taken_by_start, proposes, taken_by_propose, taken_by_restart, taken_on}
+use Rattle.paxos_core_node_steps.specs.Takes.{Takes, AreStepsOf}
+use Rattle.paxos_core_node_steps.proofs.BelongsLemmas.{belongs_kept, belongs_after_others}
+use Rattle.paxos_core_node_steps.proofs.TakesLemmas.{offer_takes, start_takes, propose_anywhere, on_takes, restart_takes}
 
 -- a call that leaves the node with its offer, or without it
 late : {z : Sizes} {w : World} {ls : List Label} {t : NodeState} {m : Option Msg} → Takes z w ls t m → TakesLate z w ls t m

@@ -1,21 +1,21 @@
 -- A node whose offer stands in a cell of its own, which is no part of the world: the run has the offer at the latest with the
 -- step by which the node proposes its own number. Until then the world may show all that the node keeps but the offer.
 use Rattle.std.specs.Prelude.{◌≡◌, ◌≢◌, ℕ, ◌<◌, ◌≤◌, ◌⊎◌, Bool, ◌&&◌, not, if◌then◌else◌, List, [], ◌∷◌, ◌++◌, Option, Some, None, is_some, is_none, IfSome}
-use Rattle.paxos_core_world.specs.KeptPart.{KeptPart, without_offer}
-use Rattle.paxos_core_world.specs.Quorum.{Sizes}
-use Rattle.paxos_core_world.specs.Run.{IsRun, reached}
-use Rattle.paxos_core_world.specs.Step.{Label, Offers, after}
-use Rattle.paxos_core_world.specs.World.{World, Has}
-use Rattle.paxos_core_world.specs.declared.msg.Msg.{Msg}
-use Rattle.paxos_core_world.specs.declared.msg.Msg.TheVariants.{Prepare}
-use Rattle.paxos_core_law.specs.Belongs.{Belongs}
-use Rattle.paxos_core_law.specs.Message.{reply, after_message}
-use Rattle.paxos_core_law.specs.NodeState.{NodeState, offered, restarted}
-use Rattle.paxos_core_law.specs.Notes.{highest_below}
-use Rattle.paxos_core_law.specs.Proposer.{next_ballot, started, next_proposal, proposal, after_proposal}
-use Rattle.paxos_core_law.specs.Reached.{IsReached}
-use Rattle.paxos_core_law.specs.Taken.{taken_by_start, taken_by_propose, taken_by_restart, taken_on}
-use Rattle.paxos_core_law.specs.Takes.{IsStepOf, AreStepsOf}
+use Rattle.paxos_core_node_steps.specs.KeptPart.{KeptPart, without_offer}
+use Rattle.paxos_core_node_steps.specs.Quorum.{Sizes}
+use Rattle.paxos_core_node_steps.specs.Run.{IsRun, reached}
+use Rattle.paxos_core_node_steps.specs.PaxosCoreWorldStep.{Label, Offers, after}
+use Rattle.paxos_core_node_steps.specs.World.{World, Has}
+use Rattle.paxos_core_node_steps.specs.Msg.{Msg}
+use Rattle.paxos_core_node_steps.specs.Msg.TheVariants.{Prepare}
+use Rattle.paxos_core_node_steps.specs.Belongs.{Belongs}
+use Rattle.paxos_core_node_steps.specs.Message.{reply, after_message}
+use Rattle.paxos_core_node_steps.specs.NodeState.{NodeState, offered, restarted}
+use Rattle.paxos_core_node_steps.specs.Notes.{highest_below}
+use Rattle.paxos_core_node_steps.specs.Proposer.{next_ballot, started, next_proposal, proposal, after_proposal}
+use Rattle.paxos_core_node_steps.specs.Reached.{IsReached}
+use Rattle.paxos_core_node_steps.specs.Taken.{taken_by_start, taken_by_propose, taken_by_restart, taken_on}
+use Rattle.paxos_core_node_steps.specs.Takes.{IsStepOf, AreStepsOf}
 
 -- the node without its offer
 abbrev pub unoffered : NodeState → NodeState

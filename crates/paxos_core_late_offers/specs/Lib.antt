@@ -1,1 +1,17 @@
 pub mod LateOffer
+pub use Rattle.paxos_core_node_steps.specs.Acceptor
+pub use Rattle.paxos_core_node_steps.specs.Agreement
+pub use Rattle.paxos_core_node_steps.specs.Belongs
+pub use Rattle.paxos_core_node_steps.specs.Learner
+pub use Rattle.paxos_core_node_steps.specs.Message
+pub use Rattle.paxos_core_node_steps.specs.NextBallot
+pub use Rattle.paxos_core_node_steps.specs.NodeState
+pub use Rattle.paxos_core_node_steps.specs.Notes
+pub use Rattle.paxos_core_node_steps.specs.OneCode
+pub use Rattle.paxos_core_node_steps.specs.Proposer
+pub use Rattle.paxos_core_node_steps.specs.Reached
+pub use Rattle.paxos_core_node_steps.specs.Taken
+pub use Rattle.paxos_core_node_steps.specs.Takes
+pub use Rattle.paxos_core_node_steps.specs.Would
+pub use Rattle.paxos_core_node_steps.specs.declared.step.Act
+pub use Rattle.paxos_core_node_steps.specs.Invariant

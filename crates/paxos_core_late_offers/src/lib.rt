@@ -4,4 +4,5 @@
 
 mod theorem;
 
+pub use paxos_core_node_steps::{promises, settled, step};
 pub use theorem::late_offers;

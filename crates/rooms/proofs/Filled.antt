@@ -2,20 +2,20 @@
 use Rattle.std.proofs.Common.{◌≡◌, ℕ, zero, suc, ◌<◌, ◌⊎◌, false, true, List, [], ◌∷◌, length, set, get_or-set_same, get_or-set_other, Option, Some, None, IsSome, is_some, refl, sym, ap, ◌∙◌, subst, inl, inr}
 use native.Mathlib.Decide.{ℕ_discrete}
 use Rattle.std.proofs.lemmas.List.{length-map}
-use Rattle.paxos_core_law.specs.Would.{kept_by}
-use Rattle.paxos_core_law.specs.declared.step.Step.{Step}
-use Rattle.paxos_core_law.specs.declared.step.Step.TheVariants as step
+use Rattle.paxos_core_node_steps.specs.Would.{kept_by}
+use Rattle.paxos_core_node_steps.specs.declared.step.Step.{Step}
+use Rattle.paxos_core_node_steps.specs.declared.step.Step.TheVariants as step
 use Rattle.paxos_core_world.specs.KeptPart.{KeptPart, nothing_kept}
 use Rattle.paxos_core_world.specs.Quorum.{Sizes}
 use Rattle.paxos_core_world.specs.World.{nodes_of}
 use Rattle.rooms_cells.specs.declared.sight.Put.{Put}
 use Rattle.rooms_cells.specs.declared.sight.Put.TheVariants as put
 use Rattle.rooms_cells.specs.Seen.{SightOf, Read, Stays, nothing_seen, sight_at, unseen, value_at}
-use Rattle.rooms_state.specs.declared.act.Act.{Act}
-use Rattle.rooms_rule.specs.declared.view.Opening.{Opening}
-use Rattle.rooms_table.specs.RoomAt.{RoomAt}
-use Rattle.rooms_state.specs.SeatState.{SeatState, opening_of}
-use Rattle.rooms_state.specs.Would.{would, Acted}
+use Rattle.rooms_seat.specs.Act.{Act}
+use Rattle.rooms_seat.specs.Opening.{Opening}
+use Rattle.rooms_seat.specs.RoomAt.{RoomAt}
+use Rattle.rooms_seat.specs.SeatState.{SeatState, opening_of}
+use Rattle.rooms_seat.specs.Would.{would, Acted}
 use Rattle.rooms.specs.Opened.{offer_at, opened, AreFit, AreOffersOf, IsFit}
 use Rattle.rooms.specs.SeatValue.{SeatValue, IsFilled, IsOffered, offer_of}
 

@@ -2,3 +2,4 @@ pub mod Starts
 pub mod Offers
 pub mod Openings
 pub mod Filled
+pub use Rattle.rooms_seat.proofs.Told

@@ -1,10 +1,10 @@
 -- What an offer that the cell takes makes of a seat.
 use Rattle.std.proofs.Common.{◌≡◌, ℕ, ◌<◌, false, List, length, get_or-set_same, get_or-set_other, Some, None, sym, ap, ◌∙◌, subst}
-use Rattle.paxos_core_law.specs.NodeState.{offered}
+use Rattle.paxos_core_node_steps.specs.NodeState.{offered}
 use Rattle.rooms_cells.specs.declared.sight.Put.{Put}
 use Rattle.rooms_cells.specs.declared.sight.Put.TheVariants as put
 use Rattle.rooms_cells.specs.Seen.{SightOf, IsPut, IsPutAt, nothing_seen, sight_at, value_at}
-use Rattle.rooms_state.specs.SeatState.{SeatState}
+use Rattle.rooms_seat.specs.SeatState.{SeatState}
 use Rattle.rooms.specs.SeatValue.{SeatValue, IsOffered, offer_of}
 
 pub stands : {B T : Type 0} (told : Put B) (b : B) (x : T) (j : ℕ) (old : SeatValue T) (words : SeatState) (new : List (SightOf T)) → told ≡ put.Yes → j ≡ old.words.node.me

@@ -3,11 +3,11 @@ use Rattle.std.proofs.Common.{◌≡◌, ℕ, zero, suc, ◌+◌, ◌<◌, ◌�
 use Rattle.rooms_cells.specs.declared.sight.Put.{Put}
 use Rattle.rooms_cells.specs.declared.sight.Put.TheVariants as put
 use Rattle.rooms_cells.specs.Seen.{SightOf, IsPut, IsPutAt, sight_at}
-use Rattle.rooms_rule.specs.declared.view.Opening.{Opening}
-use Rattle.rooms_table.specs.RoomAt.{RoomAt}
+use Rattle.rooms_seat.specs.Opening.{Opening}
+use Rattle.rooms_seat.specs.RoomAt.{RoomAt}
 use Rattle.paxos_core_world.specs.KeptPart.{KeptPart}
 use Rattle.paxos_core_world.specs.Quorum.{Sizes}
-use Rattle.rooms_state.specs.SeatState.{opening_of}
+use Rattle.rooms_seat.specs.SeatState.{opening_of}
 use Rattle.rooms_seat.specs.Dealing.{Dealing}
 use Rattle.rooms.specs.Opened.{offer_at, opened, opened_first, with_seen, AnyOffered, AreDealt, AreFit, AreOpened, IsFit}
 use Rattle.rooms.specs.SeatValue.{SeatValue}

@@ -1,11 +1,11 @@
 -- What a start answers is what was told.
 use Rattle.std.proofs.Common.{◌≡◌, ℕ, ◌<◌, ◌≤◌, ◌↔◌, Bool, true, false, cond, leb, Some, None, Ok, Err, IfOk, IsErr, Result, option_map, refl, sym, ap, ◌∙◌, arith}
 use Rattle.std.proofs.lemmas.Bool.{le-leb, leb-true}
-use Rattle.paxos_core_law.specs.Proposer.{next_ballot}
-use Rattle.paxos_core_law.specs.declared.step.Step.TheVariants as step
-use Rattle.rooms_state.specs.declared.act.Act.TheVariants as act
-use Rattle.rooms_state.specs.SeatState.{SeatState}
-use Rattle.rooms_state.specs.Would.{would}
+use Rattle.paxos_core_node_steps.specs.Proposer.{next_ballot}
+use Rattle.paxos_core_node_steps.specs.declared.step.Step.TheVariants as step
+use Rattle.rooms_seat.specs.Act.TheVariants as act
+use Rattle.rooms_seat.specs.SeatState.{SeatState}
+use Rattle.rooms_seat.specs.Would.{would}
 
 over_if : (b : ℕ) (t : Bool) → 65535 < b → leb b 65535 ≡ t → leb b 65535 ≡ false
 over_if b true h e = let low : b ≤ 65535 = leb-true b 65535 e in absurd (omega arith)

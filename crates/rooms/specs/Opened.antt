@@ -4,9 +4,9 @@ use Rattle.paxos_core_world.specs.KeptPart.{KeptPart}
 use Rattle.paxos_core_world.specs.Quorum.{Sizes}
 use Rattle.paxos_core_world.specs.World.{nodes_of}
 use Rattle.rooms_cells.specs.Seen.{SightOf, sight_at, unseen}
-use Rattle.rooms_rule.specs.declared.view.Opening.{Opening}
-use Rattle.rooms_table.specs.RoomAt.{RoomAt}
-use Rattle.rooms_state.specs.SeatState.{opened_seat, opening_of}
+use Rattle.rooms_seat.specs.Opening.{Opening}
+use Rattle.rooms_seat.specs.RoomAt.{RoomAt}
+use Rattle.rooms_seat.specs.SeatState.{opened_seat, opening_of}
 use Rattle.rooms.specs.SeatValue.{SeatValue}
 
 -- node i's offer, if it has made one

@@ -1,12 +1,12 @@
 -- A seat of a room: its words, and what it has seen of the cells.
 use Rattle.std.specs.Prelude.{◌≡◌, ◌≢◌, ℕ, false, true, List, Option, Some, None, IsSome}
-use Rattle.paxos_core_law.specs.NodeState.{offered}
+use Rattle.paxos_core_node_steps.specs.NodeState.{offered}
 use Rattle.rooms_cells.specs.declared.sight.Put.{Put}
 use Rattle.rooms_cells.specs.declared.sight.Put.TheVariants as put
 use Rattle.rooms_cells.specs.Seen.{SightOf, names_of, value_at}
 use Rattle.rooms_seat.specs.declared.meeting.Meeting.{Meeting}
 use Rattle.rooms_seat.specs.declared.meeting.Meeting.TheVariants.{Same}
-use Rattle.rooms_state.specs.SeatState.{SeatState}
+use Rattle.rooms_seat.specs.SeatState.{SeatState}
 
 -- T is what an offer is
 pub record SeatValue (T : Type 0) : Type 0 where

@@ -9,10 +9,11 @@ use crate::error::RoomError;
 use crate::seat::Seat;
 use lang_base::Pass;
 use offers::Offer;
+use paxos_core_node_steps::settled::settled;
+use paxos_core_world::kept::Kept;
+use paxos_core_world::quorum::Quorums;
 use rooms_cells::{Put, Shelf, Sights};
 use rooms_seat::Dealer;
-use paxos_core_world::{kept::Kept, quorum::Quorums};
-use paxos_core_model::settled::settled;
 use std::alloc::Global;
 use std::sync::Arc;
 

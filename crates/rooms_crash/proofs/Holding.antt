@@ -7,20 +7,20 @@ use Rattle.paxos_core_world.specs.Settled.{is_given}
 use Rattle.paxos_core_world.specs.World.{World, Has}
 use Rattle.paxos_core_world.specs.declared.msg.Msg.TheVariants.{Prepare, Propose}
 use Rattle.paxos_core_world.specs.declared.vote.Vote.{Vote}
-use Rattle.paxos_core_law.specs.Acceptor.{promises}
-use Rattle.paxos_core_law.specs.NodeState.{NodeState, offered}
-use Rattle.paxos_core_law.specs.Reached.{IsReached}
-use Rattle.paxos_core_law.specs.Would.{kept_by, next_promise, next_vote}
-use Rattle.paxos_core_law.specs.declared.step.Act.TheVariants as core_act
-use Rattle.paxos_core_law.specs.declared.step.Step.TheVariants as step
-use Rattle.paxos_core_late_offers.specs.LateOffer.{BelongsWithLateOffer}
+use Rattle.paxos_core_node_steps.specs.Acceptor.{promises}
+use Rattle.paxos_core_node_steps.specs.NodeState.{NodeState, offered}
+use Rattle.paxos_core_node_steps.specs.Reached.{IsReached}
+use Rattle.paxos_core_node_steps.specs.Would.{kept_by, next_promise, next_vote}
+use Rattle.paxos_core_node_steps.specs.declared.step.Act.TheVariants as core_act
+use Rattle.paxos_core_node_steps.specs.declared.step.Step.TheVariants as step
+use Rattle.paxos_core_crash.specs.LateOffer.{BelongsWithLateOffer}
 use Rattle.paxos_core_crash.specs.Crash.{IsRecorded, Nothing, ToOffer, ToDo}
 use Rattle.paxos_core_crash.proofs.JournalLemmas.{journals_are_recorded}
-use Rattle.rooms_state.specs.declared.act.Act.{Act}
-use Rattle.rooms_state.specs.declared.act.Act.TheVariants as act
-use Rattle.rooms_state.specs.SeatState.{SeatState, proposer_of, seen_world, vote_by}
-use Rattle.rooms_state.specs.Would.{would, IsAmong}
-use Rattle.rooms_rule.proofs.RunLemmas.{legal_reached}
+use Rattle.rooms_meeting.specs.Act.{Act}
+use Rattle.rooms_meeting.specs.Act.TheVariants as act
+use Rattle.rooms_meeting.specs.SeatState.{SeatState, proposer_of, seen_world, vote_by}
+use Rattle.rooms_meeting.specs.Would.{would, IsAmong}
+use Rattle.rooms_words.proofs.RunLemmas.{legal_reached}
 use Rattle.rooms_crash.specs.Held.{HeldIsRecorded, MayHold}
 use Rattle.rooms_crash.specs.OfRun.{StandsInRun}
 

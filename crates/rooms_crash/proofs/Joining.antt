@@ -3,13 +3,13 @@ use Rattle.std.proofs.Common.{◌≡◌, ◌≢◌, ℕ, ◌<◌, ◌⊎◌, Lis
 use Rattle.std.proofs.lemmas.Bool.{cases_eq}
 use Rattle.paxos_core_world.specs.Quorum.{Sizes}
 use Rattle.paxos_core_world.specs.World.{Has}
-use Rattle.paxos_core_law.specs.NodeState.{NodeState}
-use Rattle.rooms_rule.specs.declared.event.Event.{Event}
-use Rattle.rooms_rule.specs.Events.{labels_of}
-use Rattle.rooms_state.specs.SeatState.{SeatState}
-use Rattle.rooms_rule.specs.Views.{BeginsWith, IsLegal}
-use Rattle.rooms_rule.proofs.RunLemmas.{begins_through}
-use Rattle.rooms_met.specs.Met.{HaveMet}
+use Rattle.paxos_core_node_steps.specs.NodeState.{NodeState}
+use Rattle.rooms_words.specs.declared.event.Event.{Event}
+use Rattle.rooms_words.specs.Events.{labels_of}
+use Rattle.rooms_meeting.specs.SeatState.{SeatState}
+use Rattle.rooms_words.specs.Views.{BeginsWith, IsLegal}
+use Rattle.rooms_words.proofs.RunLemmas.{begins_through}
+use Rattle.rooms_meeting.specs.Met.{HaveMet}
 use Rattle.rooms_crash.specs.Meetings.{AllMeet, IsSeatOf, Meetings, Meets, MeetsIn, MeetingsJoin}
 use Rattle.rooms_crash.specs.Rest.{Rests, Spare}
 use Rattle.rooms_crash.proofs.Looking.{OnlyLooked, first_looked, looked_never, looked_on, second_looked, spare_between}

@@ -6,41 +6,41 @@ use Rattle.paxos_core_world.specs.Step.{Label}
 use Rattle.paxos_core_world.specs.World.{World, Has}
 use Rattle.paxos_core_world.specs.declared.msg.Msg.TheVariants.{Prepare, Propose}
 use Rattle.paxos_core_world.specs.declared.vote.Vote.{Vote}
-use Rattle.paxos_core_late_offers.specs.LateOffer.{BelongsWithLateOffer}
-use Rattle.paxos_core_law.specs.Acceptor.{accepts, promises}
-use Rattle.paxos_core_law.specs.NodeState.{NodeState, offered, restarted}
-use Rattle.paxos_core_law.specs.Proposer.{choice, may_propose, next_ballot, next_proposal, propose_message, proposal_under, started, after_answer}
-use Rattle.paxos_core_law.specs.Notes.{highest_below}
-use Rattle.paxos_core_law.specs.Taken.{taken_by_restart}
-use Rattle.paxos_core_law.specs.Would.{after_act}
-use Rattle.paxos_core_law.specs.declared.step.Act.{Act as CoreAct}
-use Rattle.paxos_core_law.specs.declared.step.Act.TheVariants as core_act
-use Rattle.paxos_core_law.specs.declared.step.Step.{Step}
-use Rattle.paxos_core_law.specs.declared.step.Step.TheVariants as step
-use Rattle.rooms_rule.specs.Sight.{ProposerSeen}
-use Rattle.rooms_rule.specs.WordsOf.{proposed_by}
-use Rattle.rooms_steps.proofs.OfferLemmas.{hearing_offered, message_offered, proposed_offered}
-use Rattle.rooms_steps.proofs.Stays.{proposer_seen}
-use Rattle.rooms_rule.specs.declared.acceptor.AcceptorWord.{AcceptorWord}
-use Rattle.rooms_state.specs.Did.{Did, Forgotten, LookedAtAcceptor, LookedAtProposer}
-use Rattle.rooms_rule.specs.declared.event.Event.{Event}
-use Rattle.rooms_rule.specs.Heard.{after_hearing, taken_by_hearing}
-use Rattle.rooms_rule.specs.declared.view.Opening.{Opening}
-use Rattle.rooms_rule.specs.declared.proposer.ProposerWord.{ProposerWord}
-use Rattle.rooms_state.specs.SeatState.{CanOpen, SeatState, no_proposer, opened_seat, seen_world}
-use Rattle.rooms_rule.specs.Steps.{Advances, Forgot}
-use Rattle.rooms_rule.specs.declared.view.View.{View}
-use Rattle.rooms_rule.specs.Views.{world_after}
-use Rattle.rooms_state.specs.Would.{would, act_of, proposed_by_step, Acted}
-use Rattle.rooms_state.specs.declared.act.Act.{Act}
-use Rattle.rooms_state.specs.declared.act.Act.TheVariants as act
-use Rattle.rooms_steps.proofs.HearLemmas.{me_hearing}
-use Rattle.rooms_state.proofs.Moves.{kept_hearing, proposer_stays_seen}
-use Rattle.rooms_state.proofs.Opened.{opened_sound}
-use Rattle.rooms_rule.proofs.RunLemmas.{legal_reached}
-use Rattle.rooms_state.proofs.Told.{notes_of}
-use Rattle.rooms_met.specs.Met.{told_by, HaveMet, IsKnown, LookedAtBoth, LookedAtFirst}
-use Rattle.rooms_table.specs.RoomAt.{HasWords, RoomAt}
+use Rattle.paxos_core_crash.specs.LateOffer.{BelongsWithLateOffer}
+use Rattle.paxos_core_node_steps.specs.Acceptor.{accepts, promises}
+use Rattle.paxos_core_node_steps.specs.NodeState.{NodeState, offered, restarted}
+use Rattle.paxos_core_node_steps.specs.Proposer.{choice, may_propose, next_ballot, next_proposal, propose_message, proposal_under, started, after_answer}
+use Rattle.paxos_core_node_steps.specs.Notes.{highest_below}
+use Rattle.paxos_core_node_steps.specs.Taken.{taken_by_restart}
+use Rattle.paxos_core_node_steps.specs.Would.{after_act}
+use Rattle.paxos_core_node_steps.specs.declared.step.Act.{Act as CoreAct}
+use Rattle.paxos_core_node_steps.specs.declared.step.Act.TheVariants as core_act
+use Rattle.paxos_core_node_steps.specs.declared.step.Step.{Step}
+use Rattle.paxos_core_node_steps.specs.declared.step.Step.TheVariants as step
+use Rattle.rooms_words.specs.Sight.{ProposerSeen}
+use Rattle.rooms_words.specs.WordsOf.{proposed_by}
+use Rattle.rooms_meeting.proofs.OfferLemmas.{hearing_offered, message_offered, proposed_offered}
+use Rattle.rooms_meeting.proofs.Stays.{proposer_seen}
+use Rattle.rooms_words.specs.declared.acceptor.AcceptorWord.{AcceptorWord}
+use Rattle.rooms_meeting.specs.Did.{Did, Forgotten, LookedAtAcceptor, LookedAtProposer}
+use Rattle.rooms_words.specs.declared.event.Event.{Event}
+use Rattle.rooms_words.specs.Heard.{after_hearing, taken_by_hearing}
+use Rattle.rooms_words.specs.declared.view.Opening.{Opening}
+use Rattle.rooms_words.specs.declared.proposer.ProposerWord.{ProposerWord}
+use Rattle.rooms_meeting.specs.SeatState.{CanOpen, SeatState, no_proposer, opened_seat, seen_world}
+use Rattle.rooms_words.specs.Steps.{Advances, Forgot}
+use Rattle.rooms_words.specs.declared.view.View.{View}
+use Rattle.rooms_words.specs.Views.{world_after}
+use Rattle.rooms_meeting.specs.Would.{would, act_of, proposed_by_step, Acted}
+use Rattle.rooms_meeting.specs.Act.{Act}
+use Rattle.rooms_meeting.specs.Act.TheVariants as act
+use Rattle.rooms_meeting.proofs.HearLemmas.{me_hearing}
+use Rattle.rooms_meeting.proofs.Moves.{kept_hearing, proposer_stays_seen}
+use Rattle.rooms_meeting.proofs.Opened.{opened_sound}
+use Rattle.rooms_words.proofs.RunLemmas.{legal_reached}
+use Rattle.rooms_meeting.proofs.Told.{notes_of}
+use Rattle.rooms_meeting.specs.Met.{told_by, HaveMet, IsKnown, LookedAtBoth, LookedAtFirst}
+use Rattle.rooms_meeting.specs.RoomAt.{HasWords, RoomAt}
 use Rattle.rooms_crash.specs.Calls.{CallsKeepRun, HasOfferedFor}
 use Rattle.rooms_crash.specs.OfRun.{GoesOn, IsOfRun, StandsInRun}
 use Rattle.rooms_crash.proofs.Offering.{LeaveOffer, act_leaves, hearing_leaves, restart_leaves, stood_before}

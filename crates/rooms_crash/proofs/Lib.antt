@@ -4,3 +4,5 @@ pub mod Holding
 pub mod Resting
 pub mod Looking
 pub mod Joining
+pub use Rattle.rooms_meeting.proofs.Acts
+pub use Rattle.rooms_meeting.proofs.Told

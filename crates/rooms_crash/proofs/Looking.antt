@@ -4,20 +4,20 @@ use Rattle.std.proofs.lemmas.List.{append_cancel_right}
 use Rattle.paxos_core_world.specs.KeptPart.{vote}
 use Rattle.paxos_core_world.specs.Step.{Label, Learns}
 use Rattle.paxos_core_world.specs.declared.vote.Vote.{Vote}
-use Rattle.paxos_core_law.specs.Learner.{after_promise}
-use Rattle.paxos_core_law.specs.NodeState.{NodeState}
-use Rattle.paxos_core_law.specs.Taken.{learns_from}
-use Rattle.rooms_rule.specs.declared.event.Event.{Event}
-use Rattle.rooms_rule.specs.Events.{labels_of, events_of}
-use Rattle.rooms_rule.specs.Heard.{after_hearing, taken_by_hearing, taken_on_vote}
-use Rattle.rooms_rule.specs.declared.view.Opening.{Opening}
-use Rattle.rooms_state.specs.SeatState.{SeatState}
-use Rattle.rooms_rule.specs.Steps.{Advances}
-use Rattle.rooms_rule.specs.declared.view.View.{View}
-use Rattle.rooms_rule.specs.Views.{AreStepsOfOthers, BeginsWith, IsLegal}
-use Rattle.rooms_steps.proofs.HearLemmas.{me_hearing}
-use Rattle.rooms_rule.proofs.RunLemmas.{labels_of-append, labels_of-events}
-use Rattle.rooms_met.specs.Met.{told_by, HaveMet, LookedAtBoth, LookedAtFirst}
+use Rattle.paxos_core_node_steps.specs.Learner.{after_promise}
+use Rattle.paxos_core_node_steps.specs.NodeState.{NodeState}
+use Rattle.paxos_core_node_steps.specs.Taken.{learns_from}
+use Rattle.rooms_words.specs.declared.event.Event.{Event}
+use Rattle.rooms_words.specs.Events.{labels_of, events_of}
+use Rattle.rooms_words.specs.Heard.{after_hearing, taken_by_hearing, taken_on_vote}
+use Rattle.rooms_words.specs.declared.view.Opening.{Opening}
+use Rattle.rooms_meeting.specs.SeatState.{SeatState}
+use Rattle.rooms_words.specs.Steps.{Advances}
+use Rattle.rooms_words.specs.declared.view.View.{View}
+use Rattle.rooms_words.specs.Views.{AreStepsOfOthers, BeginsWith, IsLegal}
+use Rattle.rooms_meeting.proofs.HearLemmas.{me_hearing}
+use Rattle.rooms_words.proofs.RunLemmas.{labels_of-append, labels_of-events}
+use Rattle.rooms_meeting.specs.Met.{told_by, HaveMet, LookedAtBoth, LookedAtFirst}
 use Rattle.rooms_crash.specs.Rest.{Spare}
 
 pub spare_both : (n i : ℕ) (xs ys : List Label) → Spare n i xs → Spare n i ys → Spare n i (xs ++ ys)

@@ -6,19 +6,19 @@ use Rattle.paxos_core_world.specs.Run.{reached}
 use Rattle.paxos_core_world.specs.Step.{Label, Offers, Starts, Promises, Proposes, Accepts, Learns, Restarts, after}
 use Rattle.paxos_core_world.specs.World.{World}
 use Rattle.paxos_core_world.specs.declared.vote.Vote.{Vote}
-use Rattle.paxos_core_law.specs.Acceptor.{accepts, promises}
-use Rattle.paxos_core_law.specs.Learner.{after_promise}
-use Rattle.paxos_core_law.specs.NodeState.{NodeState}
-use Rattle.paxos_core_law.specs.Proposer.{next_ballot}
-use Rattle.paxos_core_law.specs.Taken.{learns_from, taken_by_restart}
-use Rattle.paxos_core_law.specs.declared.step.Act.{Act}
-use Rattle.paxos_core_law.specs.declared.step.Act.TheVariants as act
-use Rattle.rooms_rule.specs.Events.{labels_of}
-use Rattle.rooms_rule.specs.Heard.{taken_by_hearing, taken_on_vote}
-use Rattle.rooms_rule.specs.Steps.{Advances, AreTakenBy}
-use Rattle.rooms_rule.specs.declared.view.View.{View}
-use Rattle.rooms_rule.specs.Views.{AreStepsOfOthers, IsStepOfOther, world_after}
-use Rattle.rooms_rule.proofs.RunLemmas.{world_after-append, world_after-events}
+use Rattle.paxos_core_node_steps.specs.Acceptor.{accepts, promises}
+use Rattle.paxos_core_node_steps.specs.Learner.{after_promise}
+use Rattle.paxos_core_node_steps.specs.NodeState.{NodeState}
+use Rattle.paxos_core_node_steps.specs.Proposer.{next_ballot}
+use Rattle.paxos_core_node_steps.specs.Taken.{learns_from, taken_by_restart}
+use Rattle.paxos_core_node_steps.specs.declared.step.Act.{Act}
+use Rattle.paxos_core_node_steps.specs.declared.step.Act.TheVariants as act
+use Rattle.rooms_words.specs.Events.{labels_of}
+use Rattle.rooms_words.specs.Heard.{taken_by_hearing, taken_on_vote}
+use Rattle.rooms_words.specs.Steps.{Advances, AreTakenBy}
+use Rattle.rooms_words.specs.declared.view.View.{View}
+use Rattle.rooms_words.specs.Views.{AreStepsOfOthers, IsStepOfOther, world_after}
+use Rattle.rooms_words.proofs.RunLemmas.{world_after-append, world_after-events}
 
 -- with this step node i does not offer
 abbrev pub LeavesOffer : ℕ → Label → Type 0

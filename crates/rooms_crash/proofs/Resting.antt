@@ -5,17 +5,17 @@ use Rattle.paxos_core_world.specs.Quorum.{Sizes}
 use Rattle.paxos_core_world.specs.Run.{IsRun, reached}
 use Rattle.paxos_core_world.specs.Step.{Label, Offers, Starts, Promises, Proposes, Accepts, Learns, Restarts, after}
 use Rattle.paxos_core_world.specs.World.{World, Has, nodes_of, opening as world_opening}
-use Rattle.paxos_core_law.proofs.WorldLemmas.{grows_by}
-use Rattle.paxos_core_law.specs.Reached.{IsReached}
+use Rattle.paxos_core_node_steps.proofs.WorldLemmas.{grows_by}
+use Rattle.paxos_core_node_steps.specs.Reached.{IsReached}
 use Rattle.paxos_core_crash.specs.Crash.{IsRecorded}
 use Rattle.paxos_core_crash.proofs.CrashLemmas.{crashes_learn_as_before}
 use Rattle.paxos_core_crash.proofs.OthersLemmas.{IsAheadBut, ahead_of_none, others_steps, run_ahead}
-use Rattle.rooms_rule.specs.declared.event.Event.{Event}
-use Rattle.rooms_rule.specs.Events.{labels_of}
-use Rattle.rooms_rule.specs.declared.view.Opening.{Opening}
-use Rattle.rooms_state.specs.SeatState.{SeatState, seen_world}
-use Rattle.rooms_rule.specs.Views.{IsLegal, IsStepOfOther, world_after}
-use Rattle.rooms_rule.proofs.RunLemmas.{legal_reached, world_after-append}
+use Rattle.rooms_words.specs.declared.event.Event.{Event}
+use Rattle.rooms_words.specs.Events.{labels_of}
+use Rattle.rooms_words.specs.declared.view.Opening.{Opening}
+use Rattle.rooms_meeting.specs.SeatState.{SeatState, seen_world}
+use Rattle.rooms_words.specs.Views.{IsLegal, IsStepOfOther, world_after}
+use Rattle.rooms_words.proofs.RunLemmas.{legal_reached, world_after-append}
 use Rattle.rooms_crash.proofs.Holding.{held_is_recorded}
 use Rattle.rooms_crash.proofs.Keeping.{opened_of_run}
 use Rattle.rooms_crash.specs.Rest.{IsNote, LearnsAgain, OpenedRest, RestLeaves, Rests, Spare}

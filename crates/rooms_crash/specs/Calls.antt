@@ -1,16 +1,16 @@
 -- The calls of a seat keep it of its run, where a node starts no ballot before it has offered.
 use Rattle.std.specs.Prelude.{◌≡◌, ℕ, ◌<◌, true}
-use Rattle.paxos_core_law.specs.NodeState.{offered}
-use Rattle.rooms_state.specs.declared.act.Act.{Act}
-use Rattle.rooms_state.specs.declared.act.Act.TheVariants as act
-use Rattle.rooms_rule.specs.declared.acceptor.AcceptorWord.{AcceptorWord}
-use Rattle.rooms_state.specs.Did.{Forgotten, LookedAtAcceptor, LookedAtProposer}
-use Rattle.rooms_rule.specs.declared.view.Opening.{Opening}
-use Rattle.rooms_rule.specs.declared.proposer.ProposerWord.{ProposerWord}
-use Rattle.rooms_state.specs.SeatState.{SeatState, CanOpen, opened_seat}
-use Rattle.rooms_state.specs.Would.{Acted}
-use Rattle.rooms_met.specs.Met.{HaveMet}
-use Rattle.rooms_table.specs.RoomAt.{RoomAt}
+use Rattle.paxos_core_node_steps.specs.NodeState.{offered}
+use Rattle.rooms_meeting.specs.Act.{Act}
+use Rattle.rooms_meeting.specs.Act.TheVariants as act
+use Rattle.rooms_words.specs.declared.acceptor.AcceptorWord.{AcceptorWord}
+use Rattle.rooms_meeting.specs.Did.{Forgotten, LookedAtAcceptor, LookedAtProposer}
+use Rattle.rooms_words.specs.declared.view.Opening.{Opening}
+use Rattle.rooms_words.specs.declared.proposer.ProposerWord.{ProposerWord}
+use Rattle.rooms_meeting.specs.SeatState.{SeatState, CanOpen, opened_seat}
+use Rattle.rooms_meeting.specs.Would.{Acted}
+use Rattle.rooms_meeting.specs.Met.{HaveMet}
+use Rattle.rooms_meeting.specs.RoomAt.{RoomAt}
 use Rattle.rooms_crash.specs.OfRun.{GoesOn, IsOfRun}
 
 -- to start a ballot it has to have offered

@@ -1,11 +1,11 @@
 -- What the journal of a seat's node may hold of its room.
 use Rattle.std.specs.Prelude.{◌≡◌, ◌⊎◌}
 use Rattle.paxos_core_world.specs.KeptPart.{KeptPart, with_offer}
-use Rattle.paxos_core_law.specs.Would.{kept_by}
+use Rattle.paxos_core_node_steps.specs.Would.{kept_by}
 use Rattle.paxos_core_crash.specs.Crash.{IsRecorded}
-use Rattle.rooms_state.specs.declared.act.Act.{Act}
-use Rattle.rooms_state.specs.SeatState.{SeatState, seen_world}
-use Rattle.rooms_state.specs.Would.{would, IsAmong}
+use Rattle.rooms_meeting.specs.Act.{Act}
+use Rattle.rooms_meeting.specs.SeatState.{SeatState, seen_world}
+use Rattle.rooms_meeting.specs.Would.{would, IsAmong}
 use Rattle.rooms_crash.specs.OfRun.{StandsInRun}
 
 -- what its node keeps; or that with the record of its offer, or of the step that it would take if it were asked this of a node of the room

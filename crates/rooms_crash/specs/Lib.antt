@@ -3,3 +3,9 @@ pub mod Held
 pub mod Rest
 pub mod Meetings
 pub mod Calls
+pub use Rattle.rooms_words.specs.declared.acceptor.AcceptorWord
+pub use Rattle.rooms_words.specs.declared.proposer.ProposerWord
+pub use Rattle.rooms_meeting.specs.Did
+pub use Rattle.rooms_meeting.specs.SeatState
+pub use Rattle.rooms_meeting.specs.Would
+pub use Rattle.rooms_meeting.specs.Act

@@ -2,8 +2,8 @@
 use Rattle.std.specs.Prelude.{◌≡◌, ◌≢◌, ℕ, ◌<◌, ◌⊎◌, List, [], ◌∷◌}
 use Rattle.paxos_core_world.specs.Quorum.{Sizes}
 use Rattle.paxos_core_world.specs.World.{Has}
-use Rattle.rooms_state.specs.SeatState.{SeatState}
-use Rattle.rooms_met.specs.Met.{HaveMet}
+use Rattle.rooms_meeting.specs.SeatState.{SeatState}
+use Rattle.rooms_meeting.specs.Met.{HaveMet}
 use Rattle.rooms_crash.specs.OfRun.{StandsInRun}
 use Rattle.rooms_crash.specs.Rest.{AreAtRest}
 

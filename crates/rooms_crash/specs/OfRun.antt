@@ -1,10 +1,10 @@
 -- A seat that holds nothing but what stands in the run that it has seen.
 use Rattle.std.specs.Prelude.{◌≡◌, ℕ, ◌<◌, true, Some, IsTrue}
-use Rattle.paxos_core_law.specs.NodeState.{offered}
-use Rattle.paxos_core_late_offers.specs.LateOffer.{BelongsWithLateOffer}
-use Rattle.rooms_rule.specs.Sight.{ProposerSeen}
-use Rattle.rooms_state.specs.SeatState.{SeatState, proposer_of, seen_world}
-use Rattle.rooms_rule.specs.Views.{IsLegal}
+use Rattle.paxos_core_node_steps.specs.NodeState.{offered}
+use Rattle.paxos_core_crash.specs.LateOffer.{BelongsWithLateOffer}
+use Rattle.rooms_words.specs.Sight.{ProposerSeen}
+use Rattle.rooms_meeting.specs.SeatState.{SeatState, proposer_of, seen_world}
+use Rattle.rooms_words.specs.Views.{IsLegal}
 
 -- An offer of the node that stands in the world that its seat has seen was made. The run has it at the latest with the step that proposes it,
 -- so the offer may be made, and not stand there yet.

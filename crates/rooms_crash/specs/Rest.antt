@@ -5,13 +5,13 @@ use Rattle.paxos_core_world.specs.Quorum.{Sizes}
 use Rattle.paxos_core_world.specs.Step.{Label, Offers, Starts, Promises, Proposes, Accepts, Learns, Restarts}
 use Rattle.paxos_core_world.specs.World.{nodes_of}
 use Rattle.paxos_core_crash.specs.Crash.{IsLeftByCrash}
-use Rattle.rooms_rule.specs.declared.event.Event.{Event}
-use Rattle.rooms_rule.specs.Events.{labels_of}
-use Rattle.rooms_rule.specs.declared.view.Opening.{Opening}
-use Rattle.rooms_state.specs.SeatState.{SeatState, CanOpen, opened_seat}
-use Rattle.rooms_rule.specs.Views.{IsLegal, IsStepOfOther, world_after}
-use Rattle.rooms_met.specs.Met.{IsKnown}
-use Rattle.rooms_table.specs.RoomAt.{RoomAt}
+use Rattle.rooms_words.specs.declared.event.Event.{Event}
+use Rattle.rooms_words.specs.Events.{labels_of}
+use Rattle.rooms_words.specs.declared.view.Opening.{Opening}
+use Rattle.rooms_meeting.specs.SeatState.{SeatState, CanOpen, opened_seat}
+use Rattle.rooms_words.specs.Views.{IsLegal, IsStepOfOther, world_after}
+use Rattle.rooms_meeting.specs.Met.{IsKnown}
+use Rattle.rooms_meeting.specs.RoomAt.{RoomAt}
 use Rattle.rooms_crash.specs.Held.{MayHold}
 use Rattle.rooms_crash.specs.OfRun.{StandsInRun}
 

@@ -5,3 +5,4 @@
 mod law;
 
 pub use law::{seats_at_rest, seats_of_runs, seats_that_met};
+pub use rooms_meeting::act;

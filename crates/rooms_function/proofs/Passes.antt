@@ -6,11 +6,11 @@ use Rattle.paxos_core_world.specs.KeptPart.{KeptPart}
 use Rattle.paxos_core_world.specs.Quorum.{Sizes}
 use Rattle.paxos_core_world.specs.Settled.{Settled}
 use Rattle.paxos_core_world.specs.World.{nodes_of}
-use Rattle.rooms_rule.specs.declared.view.Opening.{Opening}
-use Rattle.rooms_table.specs.RoomAt.{RoomAt}
-use Rattle.rooms_state.specs.SeatState.{opening_of}
-use Rattle.rooms_seat.specs.Dealing.{room_opened, Dealing}
-use Rattle.rooms_seat.specs.declared.opening.FourDealers.{FourDealers}
+use Rattle.rooms.specs.Opening.{Opening}
+use Rattle.rooms.specs.RoomAt.{RoomAt}
+use Rattle.rooms.specs.SeatState.{opening_of}
+use Rattle.rooms.specs.Dealing.{room_opened, Dealing}
+use Rattle.rooms.specs.FourDealers.{FourDealers}
 use Rattle.rooms.specs.Opened.{offer_at, opened, opened_first, AreDealt, AreFit, AreOffersOf}
 use Rattle.rooms.proofs.Filled.{fit_offers}
 use Rattle.rooms.specs.SeatValue.{SeatValue}

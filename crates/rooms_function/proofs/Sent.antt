@@ -4,10 +4,10 @@ use Rattle.std.proofs.Crossing.{crosses}
 use Rattle.lang_base.specs.contracts.row.Row as row
 use Rattle.locations.specs.contracts.location.Location as location
 use Rattle.locations.specs.contracts.location.Move as move
-use Rattle.machine.specs.contracts.act.Act as act
-use Rattle.ltl.specs.contracts.block.Block as block
-use Rattle.ltl.specs.contracts.block.Body as body
-use Rattle.ltl.specs.contracts.function.Function as function
+use Rattle.linearize_check.specs.Act as act
+use Rattle.linearize_check.specs.Block as block
+use Rattle.linearize_check.specs.Body as body
+use Rattle.linearize_check.specs.Function as function
 
 act_send : IsSend act.the_row
 act_send = search (sendable, crosses) depth 40 fits 20000

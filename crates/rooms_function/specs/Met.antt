@@ -1,8 +1,8 @@
 -- Two seats of one function, and what is so once they have met in the room of a pass.
 use Rattle.std.specs.Prelude.{◌≡◌, ℕ, Some}
 use Rattle.rooms.specs.SeatValue.{SeatValue, HoldSame, IsOneRoom}
-use Rattle.rooms_seat.specs.Meeting.{meeting_of, HaveMet}
-use Rattle.rooms_seat.specs.declared.meeting.Meeting.{Meeting}
+use Rattle.rooms.specs.Meeting.{meeting_of, HaveMet}
+use Rattle.rooms.specs.RoomsSeatMeeting.{Meeting}
 use Rattle.rooms_function.specs.declared.seat.FunctionSeat.{FunctionSeat}
 
 -- in each pass they are of one room

@@ -5,10 +5,10 @@ use Rattle.paxos_core_world.specs.KeptPart.{KeptPart}
 use Rattle.paxos_core_world.specs.Quorum.{Sizes}
 use Rattle.paxos_core_world.specs.Settled.{Settled}
 use Rattle.paxos_core_world.specs.World.{nodes_of}
-use Rattle.rooms_table.specs.RoomAt.{RoomAt}
-use Rattle.rooms_state.specs.SeatState.{opening_of}
-use Rattle.rooms_seat.specs.Dealing.{room_opened}
-use Rattle.rooms_seat.specs.declared.opening.FourDealers.{FourDealers}
+use Rattle.rooms.specs.RoomAt.{RoomAt}
+use Rattle.rooms.specs.SeatState.{opening_of}
+use Rattle.rooms.specs.Dealing.{room_opened}
+use Rattle.rooms.specs.FourDealers.{FourDealers}
 use Rattle.rooms.specs.Opened.{AnyOffered, AreDealt, AreFit}
 use Rattle.rooms.specs.declared.error.RoomError.{RoomError}
 use Rattle.rooms.specs.declared.error.RoomError.TheVariants.{CellRefused, NoMemory, Unsettled}

@@ -1,7 +1,7 @@
 -- The room of a pass of a function's seat. The passes are numbered from 1 to 4.
 use Rattle.std.specs.Prelude.{◌≡◌, ℕ, zero, suc}
 use Rattle.paxos_core_world.specs.World.{Has}
-use Rattle.rooms_state.specs.SeatState.{seen_world, SeatState}
+use Rattle.rooms.specs.SeatState.{seen_world, SeatState}
 use Rattle.rooms_function.specs.declared.seat.FunctionSeat.{FunctionSeat}
 
 -- the words of the room of a pass, as the seat has seen them

@@ -3,21 +3,22 @@
 
 ghost use Rattle.std.specs.Prelude.{◌≡◌, ℕ, ◌<◌, ◌≤◌, ◌↔◌, Some, None, IsErr, IfOk, IfSome};
 ghost use Rattle.std.specs.Option.{option_map};
-ghost use Rattle.paxos_core_law.specs.declared.step.Step.TheVariants as step;
+ghost use Rattle.paxos_core_node_steps.specs.declared.step.Step.TheVariants as step;
 ghost use Rattle.paxos_core_world.specs.declared.vote.Vote.{Vote};
-ghost use Rattle.rooms_state.specs.Did.{Forgotten, LookedAtAcceptor, LookedAtProposer};
-ghost use Rattle.rooms_state.specs.Would.{would, Acted, IsAmong};
-ghost use Rattle.rooms_state.specs.declared.act.Act.TheVariants as act;
+ghost use Rattle.rooms.specs.Did.{Forgotten, LookedAtAcceptor, LookedAtProposer};
+ghost use Rattle.rooms.specs.Would.{would, Acted, IsAmong};
+ghost use Rattle.rooms.specs.Act.TheVariants as act;
 ghost use Rattle.rooms_function.specs.Pass.{words_in, HasLearned, IsOnlyIn};
 
 use crate::seat::FunctionSeat;
 use crate::words::{accept, forget, promise, propose, start};
-use paxos_core::CoreError;
-use paxos_core_world::{kept::Kept, vote::Vote};
-use paxos_core_law::step::Step;
-use rooms_state::act::Act;
-use rooms_rule::acceptor::AcceptorWord;
-use rooms_rule::proposer::ProposerWord;
+use paxos_core_node_steps::step::Step;
+use paxos_core_world::kept::Kept;
+use paxos_core_world::vote::Vote;
+use rooms::CoreError;
+use rooms::acceptor::AcceptorWord;
+use rooms::act::Act;
+use rooms::proposer::ProposerWord;
 
 impl FunctionSeat {
     /// The step that `start`, `promise(j)`, `propose` or `accept(j)` would take now: none where it would take none.

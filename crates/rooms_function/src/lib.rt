@@ -9,6 +9,9 @@ mod opening;
 mod seat;
 mod words;
 
+pub use alloc_check::{Alloc, EquationLists};
+pub use constprop_check::{ConstProp, FactLists};
+pub use linearize_check::{Function, Linearize, Order};
 pub use meeting::{FunctionMeeting, meet};
 pub use offered::{ChainOffer, SeenOffer};
 pub use opening::{FunctionOffers, FunctionRoom, Unopened};

@@ -1,7 +1,7 @@
 ghost use Rattle.rooms_function.specs.Met.{IsOneFunction, Met};
 
 use crate::seat::FunctionSeat;
-use rooms_seat::Meeting;
+use rooms::Meeting;
 
 /// What two seats of one function have learned, pass by pass.
 #[derive(Clone, Copy, Debug, PartialEq, Eq)]

@@ -11,10 +11,10 @@ use constprop_check::ConstProp;
 use cse_check::Cse;
 use linearize_check::Linearize;
 use offers::Offer;
-use paxos_core_world::{kept::Kept, quorum::Quorums};
-use paxos_core_model::settled::settled;
-use rooms_seat::{FourDealers, open_four};
-use rooms::{RoomError, Seat, seats_of};
+use paxos_core_node_steps::settled::settled;
+use paxos_core_world::kept::Kept;
+use paxos_core_world::quorum::Quorums;
+use rooms::{FourDealers, RoomError, Seat, open_four, seats_of};
 use std::alloc::{AllocError, Global};
 use std::vec::IntoIter;
 

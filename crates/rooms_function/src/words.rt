@@ -2,15 +2,14 @@
 
 ghost use Rattle.std.specs.Prelude.{◌≡◌, ℕ, ◌<◌, ◌↔◌, Some, None, IsErr, IfOk};
 ghost use Rattle.std.specs.Option.{option_map};
-ghost use Rattle.paxos_core_law.specs.declared.step.Step.TheVariants as step;
+ghost use Rattle.paxos_core_node_steps.specs.declared.step.Step.TheVariants as step;
 ghost use Rattle.paxos_core_world.specs.declared.vote.Vote.{Vote};
-ghost use Rattle.rooms_state.specs.Did.{Forgotten};
-ghost use Rattle.rooms_state.specs.Would.{would, Acted};
-ghost use Rattle.rooms_state.specs.declared.act.Act.TheVariants as act;
+ghost use Rattle.rooms.specs.Did.{Forgotten};
+ghost use Rattle.rooms.specs.Would.{would, Acted};
+ghost use Rattle.rooms.specs.Act.TheVariants as act;
 
-use paxos_core::CoreError;
 use paxos_core_world::vote::Vote;
-use rooms_seat::WordSeat;
+use rooms::{CoreError, WordSeat};
 
 /// Starts the node's least own ballot above all that it has started or promised.
 pub fn start(words: &mut WordSeat) -> Result<u16, CoreError>

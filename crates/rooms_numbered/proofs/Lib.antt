@@ -1,1 +1,2 @@
 pub mod Same
+pub use Rattle.rooms_function.proofs.Sent

@@ -1,8 +1,8 @@
 -- Seats with one claim are of the same rooms.
 use Rattle.std.proofs.Common.{◌≡◌, ◌≢◌, ◌↔◌, ℕ, zero, suc, Bool, true, false, List, [], ◌∷◌, Option, None, Some, refl, sym, ap, subst, ◌∙◌}
 use Rattle.std.specs.Prelude.{MatchBool}
-use Rattle.rooms_table.specs.RoomAt.{RoomAt}
-use Rattle.rooms.specs.SeatValue.{SeatValue, IsOneRoom}
+use Rattle.rooms_function.specs.RoomAt.{RoomAt}
+use Rattle.rooms_function.specs.SeatValue.{SeatValue, IsOneRoom}
 use Rattle.rooms_hall.specs.Claimed.{Claimed}
 use Rattle.rooms_hall.specs.RoomId.{AreNumbered, RoomId, no_table}
 use Rattle.rooms_function.specs.declared.meeting.FunctionMeeting.{FunctionMeeting}

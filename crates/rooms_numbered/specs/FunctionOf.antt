@@ -5,7 +5,7 @@ use Rattle.rooms_hall.specs.RoomId.{RoomId}
 use Rattle.rooms_function.specs.declared.meeting.FunctionMeeting.{FunctionMeeting}
 use Rattle.rooms_function.specs.declared.seat.FunctionSeat.{FunctionSeat}
 use Rattle.rooms_function.specs.Met.{Met}
-use Rattle.rooms.specs.SeatValue.{IsOneRoom}
+use Rattle.rooms_function.specs.SeatValue.{IsOneRoom}
 
 -- pass by pass, where its words are, and the names of its cells
 abbrev pub function_of : FunctionSeat → RoomId

@@ -1,1 +1,14 @@
 pub mod FunctionOf
+pub use Rattle.rooms_function.specs.AllocPass
+pub use Rattle.rooms_function.specs.ConstPropPass
+pub use Rattle.rooms_function.specs.declared.seat.FunctionSeat
+pub use Rattle.rooms_function.specs.LinearizePass
+pub use Rattle.rooms_function.specs.Equation
+pub use Rattle.rooms_function.specs.Met
+pub use Rattle.rooms_function.specs.declared.meeting.FunctionMeeting
+pub use Rattle.rooms_function.specs.Opened
+pub use Rattle.rooms_function.specs.declared.opening.FunctionOffers
+pub use Rattle.rooms_function.specs.LinearLanguageFunction
+pub use Rattle.rooms_function.specs.LinearLanguage
+pub use Rattle.rooms_hall.specs.Claimed
+pub use Rattle.rooms_hall.specs.declared.hall.Naming

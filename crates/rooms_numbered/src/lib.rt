@@ -7,4 +7,8 @@ mod meeting;
 mod seat;
 
 pub use meeting::meet;
+pub use rooms_function::{
+    Alloc, ConstProp, EquationLists, FactLists, Function, FunctionOffers, FunctionRoom,
+    FunctionSeat, Linearize, Order, Unopened,
+};
 pub use seat::NumberedSeat;

@@ -5,10 +5,10 @@ use Rattle.atomic_table.specs.Seated.{TableId}
 use Rattle.atomic_table.specs.Table.{Me}
 use Rattle.paxos_core_world.specs.KeptPart.{KeptPart, nothing_kept}
 use Rattle.paxos_core_world.specs.declared.vote.Vote.{Vote}
-use Rattle.rooms_rule.specs.Deal.{dealing, nobody}
-use Rattle.rooms_rule.specs.Words.{IsVoteInWord}
-use Rattle.rooms_rule.specs.declared.view.Opening.{Opening}
-use Rattle.rooms_rule.specs.declared.view.View.{View}
+use Rattle.rooms_steps.specs.Deal.{dealing, nobody}
+use Rattle.rooms_steps.specs.Words.{IsVoteInWord}
+use Rattle.rooms_steps.specs.Opening.{Opening}
+use Rattle.rooms_steps.specs.View.{View}
 use Rattle.rooms_table.specs.Deal.{dealing_all, first_room, other_rooms}
 use Rattle.rooms_table.specs.Family.{count_of, no_opening, opening_in, rooms_in, tabulated, view_in}
 use Rattle.rooms_table.specs.Opened.{part_at, CanOpenAll}

@@ -4,8 +4,8 @@ use mathlib.Core.Option.{none}
 use native.Mathlib.Decide.{ℕ_discrete}
 use Rattle.atomic_table.specs.Seated.{TableId}
 use Rattle.atomic_table.specs.Table.{Me, Step, step, Allows, Splits, Joins}
-use Rattle.rooms_rule.specs.Deal.{dealing, dealing_rest, dealing_seat, informed, nobody, witness}
-use Rattle.rooms_rule.specs.declared.view.View.{View}
+use Rattle.rooms_steps.specs.Deal.{dealing, dealing_rest, dealing_seat, informed, nobody, witness}
+use Rattle.rooms_steps.specs.View.{View}
 use Rattle.rooms_table.specs.Deal.{all_informed, first_node, nowhere, other_nodes, rest_of, seat_of, witnesses}
 use Rattle.rooms_table.specs.Family.{rooms_in, view_in, FamilyRule}
 use Rattle.rooms_table.specs.Places.{place_of}

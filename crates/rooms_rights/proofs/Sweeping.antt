@@ -4,12 +4,12 @@ use mathlib.Core.Option.{none}
 use Rattle.atomic_table.specs.Seated.{TableId}
 use Rattle.atomic_table.specs.Table.{Me, step, Allows}
 use Rattle.paxos_core_world.specs.Step.{Label}
-use Rattle.paxos_core_law.specs.NodeState.{NodeState}
-use Rattle.rooms_rule.specs.Steps.{Advances, LooksAtAcceptor, LooksAtProposer, AcceptorLook, ProposerLook}
-use Rattle.rooms_rule.specs.Views.{IsSeated}
-use Rattle.rooms_rule.specs.Words.{accepted_in, promised_in}
-use Rattle.rooms_rule.specs.declared.view.Opening.{Opening}
-use Rattle.rooms_rule.specs.declared.view.View.{View}
+use Rattle.rooms_steps.specs.NodeState.{NodeState}
+use Rattle.rooms_steps.specs.Steps.{Advances, LooksAtAcceptor, LooksAtProposer, AcceptorLook, ProposerLook}
+use Rattle.rooms_steps.specs.Views.{IsSeated}
+use Rattle.rooms_steps.specs.Words.{accepted_in, promised_in}
+use Rattle.rooms_steps.specs.Opening.{Opening}
+use Rattle.rooms_steps.specs.View.{View}
 use Rattle.rooms_steps.proofs.HearLemmas.{me_hearing}
 use Rattle.rooms_steps.proofs.Looks.{looks_at_acceptor, looks_at_proposer}
 use Rattle.rooms_table.specs.Family.{view_in, FamilyRule}

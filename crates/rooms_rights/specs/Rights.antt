@@ -2,11 +2,11 @@
 use Rattle.std.specs.Prelude.{◌≡◌, ◌≢◌, ℕ, ◌*◌, ◌<◌, [], false}
 use Rattle.atomic_table.specs.Seated.{TableId}
 use Rattle.atomic_table.specs.Table.{Me, Allows}
-use Rattle.rooms_rule.specs.Deal.{dealing}
-use Rattle.rooms_rule.specs.Rule.{RoomRule}
-use Rattle.rooms_rule.specs.Views.{IsSeated}
-use Rattle.rooms_rule.specs.declared.view.Opening.{Opening}
-use Rattle.rooms_rule.specs.declared.view.View.{View}
+use Rattle.rooms_steps.specs.Deal.{dealing}
+use Rattle.rooms_steps.specs.Rule.{RoomRule}
+use Rattle.rooms_steps.specs.Views.{IsSeated}
+use Rattle.rooms_steps.specs.Opening.{Opening}
+use Rattle.rooms_steps.specs.View.{View}
 use Rattle.rooms_table.specs.Family.{opening_in, rooms_in, view_in}
 use Rattle.rooms_table.specs.RoomAt.{HasWords, RoomAt}
 use Rattle.rooms_table.specs.declared.view.Openings.{Openings}

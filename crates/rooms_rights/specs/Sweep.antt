@@ -3,9 +3,9 @@ use Rattle.std.specs.Prelude.{◌≡◌, ◌≢◌, ℕ, zero, suc, ◌+◌, ◌
 use mathlib.Core.Option.{none}
 use Rattle.atomic_table.specs.Seated.{TableId}
 use Rattle.atomic_table.specs.Table.{Me, step}
-use Rattle.rooms_rule.specs.Steps.{AcceptorLook, LooksAtAcceptor, LooksAtProposer, ProposerLook}
-use Rattle.rooms_rule.specs.Views.{IsSeated}
-use Rattle.rooms_rule.specs.declared.view.View.{View}
+use Rattle.rooms_steps.specs.Steps.{AcceptorLook, LooksAtAcceptor, LooksAtProposer, ProposerLook}
+use Rattle.rooms_steps.specs.Views.{IsSeated}
+use Rattle.rooms_steps.specs.View.{View}
 use Rattle.rooms_table.specs.Family.{view_in}
 use Rattle.rooms_table.specs.Places.{pair_of}
 use Rattle.rooms_table.specs.RoomAt.{HasWords}

@@ -1,14 +1,14 @@
 ghost use Rattle.std.specs.Prelude.{◌≡◌, ◌<◌, ◌≤◌, ◌*◌, IfOk, IfSome, None};
 ghost use Rattle.std.specs.Arc.{arc_value};
-ghost use Rattle.rooms_rule.specs.Words.{IsAcceptorWord, IsProposerWord, IsVoteInWord};
+ghost use Rattle.rooms_steps.specs.Words.{IsAcceptorWord, IsProposerWord, IsVoteInWord};
 ghost use Rattle.rooms_table.specs.Family.{count_of};
 ghost use Rattle.rooms_table.specs.Opened.{part_at, CanOpenAll, ShowFirst};
 ghost use Rattle.rooms_rights.specs.Rights.{IsOpened};
 
 use crate::rights::{Board, Rights};
 use paxos_core_world::kept::Kept;
-use rooms_rule::acceptor::AcceptorWord;
-use rooms_rule::proposer::ProposerWord;
+use rooms_steps::acceptor::AcceptorWord;
+use rooms_steps::proposer::ProposerWord;
 use rooms_table::rule::DealsRoom;
 use rooms_table::view::Openings;
 use std::alloc::{AllocError, Global};

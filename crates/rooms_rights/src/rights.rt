@@ -1,15 +1,15 @@
 ghost use Rattle.std.specs.Prelude.{◌≡◌, ℕ, ◌<◌, [], true, IfOk, OnOk, OnErr};
 ghost use mathlib.Core.Option.{none};
 ghost use Rattle.atomic_table.specs.Table.{step};
-ghost use Rattle.rooms_rule.specs.Deal.{dealing_rest, dealing_seat, informed};
+ghost use Rattle.rooms_steps.specs.Deal.{dealing_rest, dealing_seat, informed};
 ghost use Rattle.rooms_table.specs.Places.{place_of};
 ghost use Rattle.rooms_rights.specs.Rights.{MayDeal, MayStep};
 ghost use Rattle.rooms_rights.specs.Sweep.{CanLook, Found, MaySweep, SweptTo};
 
 use crate::seen::SeenWords;
 use atomic_table::{Play, Seat as Token, Shared, Table};
-use rooms_rule::{rule::LooksAtAcceptor, rule::LooksAtProposer};
-use rooms_rule::view::View;
+use rooms_steps::rule::{LooksAtAcceptor, LooksAtProposer};
+use rooms_steps::view::View;
 use rooms_table::play::In;
 use rooms_table::rule::{DealsNode, TableLaw, Tells};
 use rooms_table::view::{Openings, Views};

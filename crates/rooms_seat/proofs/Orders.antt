@@ -8,19 +8,19 @@ use Rattle.paxos_core_world.specs.Settled.{is_given}
 use Rattle.paxos_core_world.specs.World.{Has}
 use Rattle.paxos_core_world.specs.declared.msg.Msg.TheVariants.{Propose, Accepted}
 use Rattle.paxos_core_world.specs.declared.vote.Vote.{Vote}
-use Rattle.paxos_core_law.specs.NodeState.{NodeState}
-use Rattle.paxos_core_law.specs.Proposer.{next_proposal, propose_message}
-use Rattle.paxos_core_law.specs.Would.{next_vote}
-use Rattle.paxos_core_late_offers.specs.LateOffer.{taken_late_by_propose}
-use Rattle.paxos_core_late_offers.proofs.LateLemmas.{offers_may_be_late}
-use Rattle.rooms_steps.proofs.OfferLemmas.{proposal_offered}
-use Rattle.rooms_rule.proofs.RunLemmas.{reached_more, kept_of}
-use Rattle.rooms_steps.proofs.HearLemmas.{invariant_of}
-use Rattle.rooms_rule.proofs.RunLemmas.{legal_reached}
-use Rattle.rooms_state.proofs.Moves.{nodes_are, number_below}
-use Rattle.rooms_state.proofs.Acts.{vote_seen}
-use Rattle.rooms_state.specs.SeatState.{SeatState, seen_world, proposer_of, vote_by, vote_of}
-use Rattle.rooms_state.specs.Sound.{IsSound}
+use Rattle.rooms_words.specs.NodeState.{NodeState}
+use Rattle.rooms_words.specs.Proposer.{next_proposal, propose_message}
+use Rattle.rooms_words.specs.Would.{next_vote}
+use Rattle.rooms_words.specs.LateOffer.{taken_late_by_propose}
+use Rattle.rooms_words.proofs.LateLemmas.{offers_may_be_late}
+use Rattle.rooms_meeting.proofs.OfferLemmas.{proposal_offered}
+use Rattle.rooms_words.proofs.RunLemmas.{reached_more, kept_of}
+use Rattle.rooms_meeting.proofs.HearLemmas.{invariant_of}
+use Rattle.rooms_words.proofs.RunLemmas.{legal_reached}
+use Rattle.rooms_meeting.proofs.Moves.{nodes_are, number_below}
+use Rattle.rooms_meeting.proofs.Acts.{vote_seen}
+use Rattle.rooms_meeting.specs.SeatState.{SeatState, seen_world, proposer_of, vote_by, vote_of}
+use Rattle.rooms_meeting.specs.Sound.{IsSound}
 
 if_some : {A : Type 0} (o : Option A) (P : A → Type 0) → ((y : A) → o ≡ Some y → P y) → IfSome o P
 if_some None P each = tt

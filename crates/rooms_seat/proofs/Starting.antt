@@ -2,16 +2,16 @@
 use Rattle.std.proofs.Common.{◌≡◌, ℕ, zero, suc, ◌<◌, List, [], ◌∷◌, length, map, get_or, None, IfSome, refl, sym, ap, ◌∙◌, subst, arith}
 use Rattle.paxos_core_world.specs.KeptPart.{KeptPart, nothing_kept}
 use Rattle.paxos_core_world.specs.World.{nodes_of}
-use Rattle.paxos_core_law.specs.NodeState.{NodeState, new_node, node_with, restarted}
-use Rattle.rooms_rule.specs.Deal.{dealt}
-use Rattle.rooms_rule.specs.declared.acceptor.AcceptorWord.{AcceptorWord}
-use Rattle.rooms_rule.specs.declared.proposer.ProposerWord.{ProposerWord}
-use Rattle.rooms_rule.specs.declared.view.Opening.{Opening}
-use Rattle.rooms_rule.specs.declared.view.View.{View}
-use Rattle.rooms_table.specs.RoomAt.{RoomAt}
-use Rattle.rooms_state.specs.SeatState.{opened_acceptor, opened_proposer, opened_seat, CanOpen, SeatState}
-use Rattle.rooms_rule.specs.Words.{IsVoteInWord}
-use Rattle.rooms_state.proofs.Opened.{vote_fits}
+use Rattle.rooms_words.specs.NodeState.{NodeState, new_node, node_with, restarted}
+use Rattle.rooms_words.specs.Deal.{dealt}
+use Rattle.rooms_words.specs.declared.acceptor.AcceptorWord.{AcceptorWord}
+use Rattle.rooms_words.specs.declared.proposer.ProposerWord.{ProposerWord}
+use Rattle.rooms_words.specs.declared.view.Opening.{Opening}
+use Rattle.rooms_words.specs.declared.view.View.{View}
+use Rattle.rooms_meeting.specs.RoomAt.{RoomAt}
+use Rattle.rooms_meeting.specs.SeatState.{opened_acceptor, opened_proposer, opened_seat, CanOpen, SeatState}
+use Rattle.rooms_words.specs.Words.{IsVoteInWord}
+use Rattle.rooms_meeting.proofs.Opened.{vote_fits}
 
 -- what stands in a row, whatever stands for what is not there
 any_default : {A : Type 0} (xs : List A) (j : ℕ) (d e : A) → j < length xs → get_or xs j d ≡ get_or xs j e

@@ -1,8 +1,8 @@
 -- The words of a node are words of its room.
 use Rattle.std.proofs.Common.{ℕ, ◌+◌, ◌*◌, ◌<◌, ◌≤◌, mul-le-mul_right, sym, subst, arith}
-use Rattle.rooms_state.specs.SeatState.{SeatState}
-use Rattle.rooms_state.specs.Sound.{IsSound}
-use Rattle.rooms_state.proofs.Moves.{nodes_are, number_below}
+use Rattle.rooms_meeting.specs.SeatState.{SeatState}
+use Rattle.rooms_meeting.specs.Sound.{IsSound}
+use Rattle.rooms_meeting.proofs.Moves.{nodes_are, number_below}
 
 pub word_below : (s : SeatState) → IsSound s → (j : ℕ) → j < s.node.quorums.nodes → (2 * j < 2 * s.view.opening.quorums.nodes) × (2 * j + 1 < 2 * s.view.opening.quorums.nodes)
 word_below s sound j lt =

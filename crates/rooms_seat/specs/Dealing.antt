@@ -3,11 +3,11 @@ use Rattle.std.specs.Prelude.{◌≡◌, ℕ, List, length}
 use Rattle.atomic_table.specs.Seated.{TableId}
 use Rattle.paxos_core_world.specs.KeptPart.{KeptPart}
 use Rattle.paxos_core_world.specs.Quorum.{Sizes}
-use Rattle.rooms_rule.specs.Deal.{dealing}
-use Rattle.rooms_rule.specs.declared.view.Opening.{Opening}
-use Rattle.rooms_rule.specs.declared.view.View.{View}
-use Rattle.rooms_table.specs.RoomAt.{HasWords, RoomAt}
-use Rattle.rooms_state.specs.SeatState.{opening_of, CanOpen}
+use Rattle.rooms_words.specs.Deal.{dealing}
+use Rattle.rooms_words.specs.declared.view.Opening.{Opening}
+use Rattle.rooms_words.specs.declared.view.View.{View}
+use Rattle.rooms_meeting.specs.RoomAt.{HasWords, RoomAt}
+use Rattle.rooms_meeting.specs.SeatState.{opening_of, CanOpen}
 
 -- which room it is, how it was opened, and whose seat comes next
 pub record Dealing : Type 0 where

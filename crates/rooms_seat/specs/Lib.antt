@@ -1,2 +1,10 @@
 pub mod Meeting
 pub mod Dealing
+pub use Rattle.rooms_meeting.specs.RoomAt
+pub use Rattle.rooms_words.specs.declared.acceptor.AcceptorWord
+pub use Rattle.rooms_words.specs.declared.proposer.ProposerWord
+pub use Rattle.rooms_meeting.specs.Did
+pub use Rattle.rooms_meeting.specs.SeatState
+pub use Rattle.rooms_meeting.specs.Would
+pub use Rattle.rooms_meeting.specs.Act
+pub use Rattle.rooms_words.specs.declared.view.Opening

@@ -2,7 +2,7 @@
 use Rattle.std.specs.Prelude.{ℕ, Option, Some, None}
 use Rattle.rooms_seat.specs.declared.meeting.Meeting.{Meeting}
 use Rattle.rooms_seat.specs.declared.meeting.Meeting.TheVariants.{Neither, One, Same}
-pub use Rattle.rooms_met.specs.Met.{IsKnown, IsBounded, LookedOn, Remains, HaveMet}
+pub use Rattle.rooms_meeting.specs.Met.{IsKnown, IsBounded, LookedOn, Remains, HaveMet}
 
 -- what two nodes that have learned this tell
 abbrev pub meeting_of : Option ℕ → Option ℕ → Meeting

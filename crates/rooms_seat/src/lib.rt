@@ -11,4 +11,6 @@ mod seat;
 
 pub use meeting::{Meeting, meet};
 pub use opening::{Dealer, FourDealers, open_four};
+pub use rooms_meeting::act;
+pub use rooms_words::{CoreError, acceptor, proposer};
 pub use seat::WordSeat;

@@ -1,5 +1,5 @@
 ghost use Rattle.std.specs.Prelude.{◌≤◌, IfSome, IsNone};
-ghost use Rattle.rooms_met.specs.Met.{LookedAtAll, LookedBefore, LooksOnFrom};
+ghost use Rattle.rooms_meeting.specs.Met.{LookedAtAll, LookedBefore, LooksOnFrom};
 
 use crate::seat::{WordSeat, note};
 

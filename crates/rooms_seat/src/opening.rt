@@ -2,20 +2,21 @@ ghost use Rattle.std.specs.Prelude.{◌≡◌, ◌<◌, ◌+◌, length, IfOk, I
 ghost use Rattle.paxos_core_world.specs.Quorum.{AreQuorums};
 ghost use Rattle.paxos_core_world.specs.Settled.{Settled};
 ghost use Rattle.paxos_core_world.specs.World.{nodes_of};
-ghost use Rattle.rooms_rule.specs.Deal.{dealing};
-ghost use Rattle.rooms_table.specs.RoomAt.{HasWords};
-ghost use Rattle.rooms_state.specs.SeatState.{opened_acceptor, opened_proposer, opened_seat, opening_of, CanOpen};
-ghost use Rattle.rooms_rule.specs.Words.{IsVoteInWord};
-ghost use Rattle.rooms_met.specs.Seen.{acceptor_shown, proposer_shown};
+ghost use Rattle.rooms_words.specs.Deal.{dealing};
+ghost use Rattle.rooms_meeting.specs.RoomAt.{HasWords};
+ghost use Rattle.rooms_meeting.specs.SeatState.{opened_acceptor, opened_proposer, opened_seat, opening_of, CanOpen};
+ghost use Rattle.rooms_words.specs.Words.{IsVoteInWord};
+ghost use Rattle.rooms_meeting.specs.Seen.{acceptor_shown, proposer_shown};
 ghost use Rattle.rooms_seat.specs.Dealing.{room_opened, AreAsMany};
 
 use crate::seat::WordSeat;
-use rooms_table::view::Openings;
-use paxos_core_world::{kept::Kept, quorum::Quorums};
-use rooms_rights::{Rights, SeenWords, open_one};
-use rooms_rule::acceptor::AcceptorWord;
-use rooms_rule::proposer::ProposerWord;
-use rooms_rule::view::Opening;
+use paxos_core_world::kept::Kept;
+use paxos_core_world::quorum::Quorums;
+use rooms_meeting::view::Openings;
+use rooms_meeting::{Rights, SeenWords, open_one};
+use rooms_words::acceptor::AcceptorWord;
+use rooms_words::proposer::ProposerWord;
+use rooms_words::view::Opening;
 use std::alloc::{AllocError, Global};
 use std::marker::Model;
 
@@ -122,7 +123,7 @@ pub fn open_four(
         each: [opening1, opening2, opening3, opening4],
         number,
     };
-    let rights = rooms_rights::open_four(alloc, &openings)?;
+    let rights = rooms_meeting::open_four(alloc, &openings)?;
     Ok(FourDealers {
         first: Dealer::of(rights.first, &opening1),
         second: Dealer::of(rights.second, &opening2),

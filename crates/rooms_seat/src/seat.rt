@@ -1,31 +1,35 @@
 ghost use Rattle.std.specs.Prelude.{◌≡◌, ◌<◌, ◌↔◌, Some, None, IsErr, IsNone, OnErr, IfOk, IfSome};
-ghost use Rattle.paxos_core_law.specs.Proposer.{next_ballot, next_proposal};
-ghost use Rattle.paxos_core_law.specs.declared.step.Act.TheVariants as act;
-ghost use Rattle.rooms_state.specs.Did.{Did, Forgotten, LookedAtAcceptor, LookedAtProposer};
-ghost use Rattle.rooms_state.specs.Would.{would, IsAmong};
-ghost use Rattle.rooms_state.specs.declared.act.Act.TheVariants as asked;
-ghost use Rattle.paxos_core_law.specs.NodeState.{offered};
+ghost use Rattle.rooms_words.specs.Proposer.{next_ballot, next_proposal};
+ghost use Rattle.rooms_words.specs.Act.TheVariants as act;
+ghost use Rattle.rooms_meeting.specs.Did.{Did, Forgotten, LookedAtAcceptor, LookedAtProposer};
+ghost use Rattle.rooms_meeting.specs.Would.{would, IsAmong};
+ghost use Rattle.rooms_meeting.specs.Act.TheVariants as asked;
+ghost use Rattle.rooms_words.specs.NodeState.{offered};
 ghost use Rattle.rooms_seat.specs.Meeting.{IsBounded, IsKnown};
-ghost use Rattle.rooms_state.specs.SeatState.{opened_seat, own_words, CanOpen, promise_of, proposer_of, seen_world, vote_by, vote_of};
-ghost use Rattle.rooms_table.specs.RoomAt.{HasWords};
+ghost use Rattle.rooms_meeting.specs.SeatState.{opened_seat, own_words, CanOpen, promise_of, proposer_of, seen_world, vote_by, vote_of};
+ghost use Rattle.rooms_meeting.specs.RoomAt.{HasWords};
 ghost use Rattle.paxos_core_world.specs.Quorum.{AreQuorums};
-ghost use Rattle.rooms_met.specs.Seen.{heard_with};
-ghost use Rattle.rooms_rule.specs.Deal.{dealt, informed};
-ghost use Rattle.rooms_rule.specs.Heard.{after_hearing};
-ghost use Rattle.rooms_state.specs.Sound.{IsSound};
-ghost use Rattle.rooms_rule.specs.Words.{accepted_in, promised_in};
+ghost use Rattle.rooms_meeting.specs.Seen.{heard_with};
+ghost use Rattle.rooms_words.specs.Deal.{dealt, informed};
+ghost use Rattle.rooms_words.specs.Heard.{after_hearing};
+ghost use Rattle.rooms_meeting.specs.Sound.{IsSound};
+ghost use Rattle.rooms_words.specs.Words.{accepted_in, promised_in};
 ghost use Rattle.paxos_core_world.specs.World.{Has};
 
 use crate::opening::opened_words;
-use paxos_core::{CoreError, Node};
-use paxos_core_world::{kept::Kept, msg::Msg, vote::Vote};
-use rooms_rights::{Rights, SeenWords};
-use paxos_core_law::step::Step;
-use rooms_rule::acceptor::AcceptorWord;
-use rooms_state::act::Act;
-use rooms_rule::proposer::ProposerWord;
-use rooms_rule::{rule::Accepts, rule::Forgets, rule::LooksAtAcceptor, rule::LooksAtProposer, rule::Promises, rule::Proposes, rule::Starts};
-use rooms_rule::view::Opening;
+use paxos_core_world::kept::Kept;
+use paxos_core_world::msg::Msg;
+use paxos_core_world::vote::Vote;
+use rooms_meeting::act::Act;
+use rooms_meeting::{Rights, SeenWords};
+use rooms_words::acceptor::AcceptorWord;
+use rooms_words::proposer::ProposerWord;
+use rooms_words::rule::{
+    Accepts, Forgets, LooksAtAcceptor, LooksAtProposer, Promises, Proposes, Starts,
+};
+use rooms_words::step::Step;
+use rooms_words::view::Opening;
+use rooms_words::{CoreError, Node};
 use std::marker::Model;
 
 /// One node's right to store its two words of a room and to load all. Its calls take no lock, wait for nobody and return.
@@ -42,8 +46,8 @@ pub struct WordSeat {
 }
 
 impl Model for WordSeat {
-    ghost use Rattle.rooms_state.specs.SeatState.{SeatState};
-    ghost use Rattle.rooms_met.specs.Seen.{acceptors_shown, proposers_shown, IsKept};
+    ghost use Rattle.rooms_meeting.specs.SeatState.{SeatState};
+    ghost use Rattle.rooms_meeting.specs.Seen.{acceptors_shown, proposers_shown, IsKept};
 
     ghost Value = { SeatState };
 

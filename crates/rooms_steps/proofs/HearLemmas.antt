@@ -6,15 +6,15 @@ use Rattle.paxos_core_world.specs.Quorum.{Sizes}
 use Rattle.paxos_core_world.specs.World.{World, Has}
 use Rattle.paxos_core_world.specs.declared.msg.Msg.TheVariants.{Promise, Accepted}
 use Rattle.paxos_core_world.specs.declared.vote.Vote.{Vote}
-use Rattle.paxos_core_invariant.specs.Invariant.{Invariant}
-use Rattle.paxos_core_model.proofs.Theorem.{holds}
-use Rattle.paxos_core_law.specs.Acceptor.{is_vote}
-use Rattle.paxos_core_law.specs.Learner.{is_report, is_under_way, notes_promise, after_promise, notes_vote}
-use Rattle.paxos_core_law.specs.NodeState.{NodeState}
-use Rattle.paxos_core_law.specs.Reached.{IsReached}
-use Rattle.paxos_core_late_offers.specs.LateOffer.{BelongsWithLateOffer, TakesLate}
-use Rattle.paxos_core_late_offers.proofs.LateLemmas.{offers_may_be_late}
-use Rattle.rooms_rule.specs.Heard.{after_shown_vote, taken_on_vote, after_hearing, taken_by_hearing}
+use Rattle.rooms_words.specs.Invariant.{Invariant}
+use Rattle.rooms_words.proofs.Theorem.{holds}
+use Rattle.rooms_words.specs.Acceptor.{is_vote}
+use Rattle.rooms_words.specs.Learner.{is_report, is_under_way, notes_promise, after_promise, notes_vote}
+use Rattle.rooms_words.specs.NodeState.{NodeState}
+use Rattle.rooms_words.specs.Reached.{IsReached}
+use Rattle.rooms_words.specs.LateOffer.{BelongsWithLateOffer, TakesLate}
+use Rattle.rooms_words.proofs.LateLemmas.{offers_may_be_late}
+use Rattle.rooms_words.specs.Heard.{after_shown_vote, taken_on_vote, after_hearing, taken_by_hearing}
 
 pub invariant_of : (q : Sizes) (w : World) → IsReached q w → Invariant q w
 invariant_of q w r = subst (λ (x : World). Invariant q x) (sym r.world) (holds q r.nodes r.steps r.run)

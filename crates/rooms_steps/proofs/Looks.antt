@@ -8,24 +8,24 @@ use Rattle.paxos_core_world.specs.Run.{reached}
 use Rattle.paxos_core_world.specs.Step.{Label, Learns}
 use Rattle.paxos_core_world.specs.World.{World}
 use Rattle.paxos_core_world.specs.declared.vote.Vote.{Vote}
-use Rattle.paxos_core_law.specs.Learner.{after_promise}
-use Rattle.paxos_core_law.specs.NodeState.{NodeState, restarted}
-use Rattle.paxos_core_law.specs.Taken.{learns_from, taken_by_restart}
-use Rattle.paxos_core_late_offers.specs.LateOffer.{TakesLate}
-use Rattle.paxos_core_late_offers.proofs.LateLemmas.{offers_may_be_late}
-use Rattle.rooms_rule.specs.Words.{promised_in, accepted_in}
-use Rattle.rooms_rule.specs.declared.view.Opening.{Opening}
-use Rattle.rooms_rule.specs.declared.view.View.{View}
-use Rattle.rooms_rule.specs.Events.{events_of}
-use Rattle.rooms_rule.specs.Heard.{taken_on_vote, after_hearing, taken_by_hearing}
-use Rattle.rooms_rule.specs.Rule.{RoomRule}
-use Rattle.rooms_rule.specs.Steps.{LooksAtAcceptor, ProposerLook, AcceptorLook, ForgetLook}
-use Rattle.rooms_rule.specs.Views.{world_after, IsSeated}
-use Rattle.rooms_rule.specs.WordsOf.{acceptor_at, IsProposerOf, IsAcceptorOf, ShowsWorld}
-use Rattle.rooms_rule.proofs.Advance.{view_with, allows, belongs_now, reached_now}
+use Rattle.rooms_words.specs.Learner.{after_promise}
+use Rattle.rooms_words.specs.NodeState.{NodeState, restarted}
+use Rattle.rooms_words.specs.Taken.{learns_from, taken_by_restart}
+use Rattle.rooms_words.specs.LateOffer.{TakesLate}
+use Rattle.rooms_words.proofs.LateLemmas.{offers_may_be_late}
+use Rattle.rooms_words.specs.Words.{promised_in, accepted_in}
+use Rattle.rooms_words.specs.declared.view.Opening.{Opening}
+use Rattle.rooms_words.specs.declared.view.View.{View}
+use Rattle.rooms_words.specs.Events.{events_of}
+use Rattle.rooms_words.specs.Heard.{taken_on_vote, after_hearing, taken_by_hearing}
+use Rattle.rooms_words.specs.Rule.{RoomRule}
+use Rattle.rooms_words.specs.Steps.{LooksAtAcceptor, ProposerLook, AcceptorLook, ForgetLook}
+use Rattle.rooms_words.specs.Views.{world_after, IsSeated}
+use Rattle.rooms_words.specs.WordsOf.{acceptor_at, IsProposerOf, IsAcceptorOf, ShowsWorld}
+use Rattle.rooms_words.proofs.Advance.{view_with, allows, belongs_now, reached_now}
 use Rattle.rooms_steps.proofs.HearLemmas.{hearing_takes, me_hearing}
-use Rattle.rooms_rule.proofs.RunLemmas.{world_after-events}
-use Rattle.rooms_rule.proofs.WordLemmas.{proposer_kept, acceptor_kept, shows_read}
+use Rattle.rooms_words.proofs.RunLemmas.{world_after-events}
+use Rattle.rooms_words.proofs.WordLemmas.{proposer_kept, acceptor_kept, shows_read}
 
 -- ---- an own word, with which the node forgets
 

@@ -4,13 +4,13 @@ use Rattle.paxos_core_world.specs.KeptPart.{vote}
 use Rattle.paxos_core_world.specs.declared.msg.Msg.{Msg}
 use Rattle.paxos_core_world.specs.declared.msg.Msg.TheVariants.{Prepare, Promise, Propose, Accepted}
 use Rattle.paxos_core_world.specs.declared.vote.Vote.{Vote}
-use Rattle.paxos_core_law.specs.Acceptor.{promises, accepts}
-use Rattle.paxos_core_law.specs.Learner.{notes_promise, notes_vote}
-use Rattle.paxos_core_law.specs.Message.{after_message}
-use Rattle.paxos_core_law.specs.NodeState.{NodeState, offered}
-use Rattle.paxos_core_law.specs.Notes.{highest_below}
-use Rattle.paxos_core_law.specs.Proposer.{choice, may_propose, proposal_under, propose_message, next_proposal, after_answer, after_proposal}
-use Rattle.rooms_rule.specs.Heard.{after_shown_vote, after_hearing}
+use Rattle.rooms_words.specs.Acceptor.{promises, accepts}
+use Rattle.rooms_words.specs.Learner.{notes_promise, notes_vote}
+use Rattle.rooms_words.specs.Message.{after_message}
+use Rattle.rooms_words.specs.NodeState.{NodeState, offered}
+use Rattle.rooms_words.specs.Notes.{highest_below}
+use Rattle.rooms_words.specs.Proposer.{choice, may_propose, proposal_under, propose_message, next_proposal, after_answer, after_proposal}
+use Rattle.rooms_words.specs.Heard.{after_shown_vote, after_hearing}
 
 offered_if : (t : Bool) (s u : NodeState) → cond t (offered u) (offered s) ≡ offered (cond t u s)
 offered_if true s u = refl

@@ -10,16 +10,16 @@ use Rattle.paxos_core_world.specs.World.{World, Has, put}
 use Rattle.paxos_core_world.specs.declared.msg.Msg.{Msg}
 use Rattle.paxos_core_world.specs.declared.msg.Msg.TheVariants.{Prepare, Promise, Propose, Accepted}
 use Rattle.paxos_core_world.specs.declared.vote.Vote.{Vote}
-use Rattle.paxos_core_law.proofs.WorldLemmas.{grows_by}
-use Rattle.paxos_core_law.specs.Reached.{IsReached}
-use Rattle.rooms_rule.specs.declared.acceptor.AcceptorWord.{AcceptorWord}
-use Rattle.rooms_rule.specs.declared.proposer.ProposerWord.{ProposerWord}
-use Rattle.rooms_rule.specs.NotBelow.{StandsIn, ProposerNotBelow, VoteNotBelow, AcceptorNotBelow}
-use Rattle.rooms_rule.specs.Sight.{ProposerSeen, AcceptorSeen}
-use Rattle.rooms_rule.specs.WordsOf.{proposed_under, proposed_by}
+use Rattle.rooms_words.proofs.WorldLemmas.{grows_by}
+use Rattle.rooms_words.specs.Reached.{IsReached}
+use Rattle.rooms_words.specs.declared.acceptor.AcceptorWord.{AcceptorWord}
+use Rattle.rooms_words.specs.declared.proposer.ProposerWord.{ProposerWord}
+use Rattle.rooms_words.specs.NotBelow.{StandsIn, ProposerNotBelow, VoteNotBelow, AcceptorNotBelow}
+use Rattle.rooms_words.specs.Sight.{ProposerSeen, AcceptorSeen}
+use Rattle.rooms_words.specs.WordsOf.{proposed_under, proposed_by}
 use Rattle.rooms_steps.proofs.HearLemmas.{invariant_of}
-use Rattle.rooms_rule.proofs.RunLemmas.{reached_more}
-use Rattle.rooms_rule.proofs.WordLemmas.{put_field}
+use Rattle.rooms_words.proofs.RunLemmas.{reached_more}
+use Rattle.rooms_words.proofs.WordLemmas.{put_field}
 
 -- ---- acceptors
 

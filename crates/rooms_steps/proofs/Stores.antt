@@ -11,34 +11,34 @@ use Rattle.paxos_core_world.specs.World.{World, Has}
 use Rattle.paxos_core_world.specs.declared.msg.Msg.{Msg}
 use Rattle.paxos_core_world.specs.declared.msg.Msg.TheVariants.{Prepare, Promise, Propose, Accepted}
 use Rattle.paxos_core_world.specs.declared.vote.Vote.{Vote}
-use Rattle.paxos_core_law.specs.Acceptor.{promises, accepts, after_prepare, after_propose}
-use Rattle.paxos_core_law.specs.Belongs.{Belongs}
-use Rattle.paxos_core_law.specs.Message.{reply, after_message}
-use Rattle.paxos_core_law.specs.NodeState.{NodeState, offered}
-use Rattle.paxos_core_law.specs.Proposer.{next_ballot, started, choice, may_propose, proposal_under, next_proposal, propose_message, proposal, after_answer, after_proposal}
-use Rattle.paxos_core_law.specs.Notes.{highest_below}
-use Rattle.paxos_core_law.specs.Reached.{IsReached}
-use Rattle.paxos_core_law.specs.Taken.{taken_by_start, proposes, taken_by_propose, taken_on}
-use Rattle.paxos_core_law.specs.Takes.{AreStepsOf}
-use Rattle.paxos_core_law.specs.Would.{after_act, taken_by_act}
-use Rattle.paxos_core_law.specs.declared.step.Act.{Act}
-use Rattle.paxos_core_law.specs.declared.step.Act.TheVariants as act
-use Rattle.paxos_core_law.proofs.WorldLemmas.{grows_by}
-use Rattle.paxos_core_late_offers.specs.LateOffer.{unoffered, BelongsWithLateOffer, TakesLate, owes_offer, taken_late_by_propose}
-use Rattle.paxos_core_late_offers.proofs.LateLemmas.{offers_may_be_late}
-use Rattle.rooms_rule.specs.Words.{promised_in, accepted_in, IsProposerWord, IsAcceptorWord}
-use Rattle.rooms_rule.specs.declared.event.Event.{Event}
-use Rattle.rooms_rule.specs.declared.view.Opening.{Opening}
-use Rattle.rooms_rule.specs.declared.view.View.{View}
-use Rattle.rooms_rule.specs.Events.{labels_of, events_of}
-use Rattle.rooms_rule.specs.Rule.{RoomRule}
-use Rattle.rooms_rule.specs.Steps.{Advances, AreTakenBy, StoresProposer, StoresAcceptor, StartStore, ProposeStore, PromiseStore, AcceptStore}
-use Rattle.rooms_rule.specs.Views.{world_after, IsSeated}
-use Rattle.rooms_rule.specs.WordsOf.{proposed_under, proposer_at, acceptor_at, IsProposerOf, IsAcceptorOf}
-use Rattle.rooms_rule.proofs.Advance.{view_with, allows, belongs_now, reached_now}
+use Rattle.rooms_words.specs.Acceptor.{promises, accepts, after_prepare, after_propose}
+use Rattle.rooms_words.specs.Belongs.{Belongs}
+use Rattle.rooms_words.specs.Message.{reply, after_message}
+use Rattle.rooms_words.specs.NodeState.{NodeState, offered}
+use Rattle.rooms_words.specs.Proposer.{next_ballot, started, choice, may_propose, proposal_under, next_proposal, propose_message, proposal, after_answer, after_proposal}
+use Rattle.rooms_words.specs.Notes.{highest_below}
+use Rattle.rooms_words.specs.Reached.{IsReached}
+use Rattle.rooms_words.specs.Taken.{taken_by_start, proposes, taken_by_propose, taken_on}
+use Rattle.rooms_words.specs.Takes.{AreStepsOf}
+use Rattle.rooms_words.specs.Would.{after_act, taken_by_act}
+use Rattle.rooms_words.specs.Act.{Act}
+use Rattle.rooms_words.specs.Act.TheVariants as act
+use Rattle.rooms_words.proofs.WorldLemmas.{grows_by}
+use Rattle.rooms_words.specs.LateOffer.{unoffered, BelongsWithLateOffer, TakesLate, owes_offer, taken_late_by_propose}
+use Rattle.rooms_words.proofs.LateLemmas.{offers_may_be_late}
+use Rattle.rooms_words.specs.Words.{promised_in, accepted_in, IsProposerWord, IsAcceptorWord}
+use Rattle.rooms_words.specs.declared.event.Event.{Event}
+use Rattle.rooms_words.specs.declared.view.Opening.{Opening}
+use Rattle.rooms_words.specs.declared.view.View.{View}
+use Rattle.rooms_words.specs.Events.{labels_of, events_of}
+use Rattle.rooms_words.specs.Rule.{RoomRule}
+use Rattle.rooms_words.specs.Steps.{Advances, AreTakenBy, StoresProposer, StoresAcceptor, StartStore, ProposeStore, PromiseStore, AcceptStore}
+use Rattle.rooms_words.specs.Views.{world_after, IsSeated}
+use Rattle.rooms_words.specs.WordsOf.{proposed_under, proposer_at, acceptor_at, IsProposerOf, IsAcceptorOf}
+use Rattle.rooms_words.proofs.Advance.{view_with, allows, belongs_now, reached_now}
 use Rattle.rooms_steps.proofs.OfferLemmas.{message_offered, proposal_offered}
-use Rattle.rooms_rule.proofs.RunLemmas.{world_after-events, world_after-append, others_of_own, kept_of}
-use Rattle.rooms_rule.proofs.WordLemmas.{KeepsProposers, proposer_kept, acceptor_kept, proposer_of_others, acceptor_of_others, shows_acceptor, shows_proposer}
+use Rattle.rooms_words.proofs.RunLemmas.{world_after-events, world_after-append, others_of_own, kept_of}
+use Rattle.rooms_words.proofs.WordLemmas.{KeepsProposers, proposer_kept, acceptor_kept, proposer_of_others, acceptor_of_others, shows_acceptor, shows_proposer}
 
 below_count : (q : Sizes) (w : World) (s : NodeState) → BelongsWithLateOffer q w s → s.me < q.nodes
 below_count q w s (inl h) = h.number

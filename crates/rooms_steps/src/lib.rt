@@ -2,3 +2,4 @@
 //! seats saw of the words. Lemmas alone, on which the calls of a seat stand.
 #![tactic(auto)]
 
+pub use rooms_words::{acceptor, proposer, rule, view};

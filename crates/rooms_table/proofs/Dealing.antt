@@ -1,11 +1,11 @@
 -- How the rights of a table are cut, and told.
 use Rattle.std.proofs.Common.{◌≡◌, ℕ, zero, suc, ◌<◌, ◌⊎◌, Bool, true, false, if◌then◌else◌, List, [], ◌∷◌, map, length, get_or, refl, sym, ap, subst, inl, inr, arith}
 use Rattle.atomic_table.specs.Table.{Splits, Joins}
-use Rattle.rooms_rule.specs.Deal.{dealing, dealing_rest, dealing_seat, informed, nobody, witness}
-use Rattle.rooms_rule.specs.Rule.{RoomRule}
-use Rattle.rooms_rule.specs.declared.view.Opening.{Opening}
-use Rattle.rooms_rule.specs.declared.view.View.{View}
-use Rattle.rooms_rule.proofs.Deal.{deals, gives_all, gives_none, makes_witness, takes_nothing, takes_witness}
+use Rattle.rooms_words.specs.Deal.{dealing, dealing_rest, dealing_seat, informed, nobody, witness}
+use Rattle.rooms_words.specs.Rule.{RoomRule}
+use Rattle.rooms_words.specs.declared.view.Opening.{Opening}
+use Rattle.rooms_words.specs.declared.view.View.{View}
+use Rattle.rooms_words.proofs.Deal.{deals, gives_all, gives_none, makes_witness, takes_nothing, takes_witness}
 use Rattle.rooms_table.specs.Deal.{all_informed, first_node, first_of, first_room, informed_by, nowhere, other_nodes, other_rooms, others_of, rest_of, seat_of, witnesses}
 use Rattle.rooms_table.specs.Family.{rooms_in, view_in, FamilyRule}
 use Rattle.rooms_table.specs.declared.view.Openings.{Openings}

@@ -5,12 +5,12 @@ use mathlib.Core.Option.{Option, some}
 use lib.ListN.{get_elem?}
 use Rattle.atomic_table.specs.Table.{State, Me, Act, Step, step, Valid, stepped, Allows, Splits, Joins, carried_after}
 use Rattle.atomic_table.proofs.Lists.{at_map, at_set, at_snoc, set_again}
-use Rattle.rooms_rule.specs.declared.view.Opening.{Opening}
-use Rattle.rooms_rule.specs.declared.view.View.{View}
-use Rattle.rooms_rule.specs.Deal.{nobody}
-use Rattle.rooms_rule.specs.Rule.{AreApart, RoomRule}
-use Rattle.rooms_rule.specs.Views.{world_after, IsSeated}
-use Rattle.rooms_rule.specs.WordsOf.{ShowsWorld}
+use Rattle.rooms_words.specs.declared.view.Opening.{Opening}
+use Rattle.rooms_words.specs.declared.view.View.{View}
+use Rattle.rooms_words.specs.Deal.{nobody}
+use Rattle.rooms_words.specs.Rule.{AreApart, RoomRule}
+use Rattle.rooms_words.specs.Views.{world_after, IsSeated}
+use Rattle.rooms_words.specs.WordsOf.{ShowsWorld}
 use Rattle.rooms_table.specs.Deal.{nowhere}
 use Rattle.rooms_table.specs.Family.{count_of, opening_in, room_in, rooms_in, view_in, words_in, FamilyRule}
 use Rattle.rooms_table.specs.Places.{place_of}

@@ -5,14 +5,14 @@ use native.Mathlib.Decide.{ℕ_discrete}
 use mathlib.Core.Option.{some, some-injective, some-ne-none}
 use lib.ListN.{get_elem?}
 use Rattle.atomic_table.specs.Table as table
-use Rattle.paxos_core_world.specs.KeptPart.{KeptPart}
-use Rattle.paxos_core_world.specs.World.{nodes_of}
-use Rattle.rooms_rule.specs.Deal.{dealing, nobody}
-use Rattle.rooms_rule.specs.Rule.{RoomRule}
-use Rattle.rooms_rule.specs.Words.{IsProposerWord, IsAcceptorWord}
-use Rattle.rooms_rule.specs.WordsOf.{ShowsKept}
-use Rattle.rooms_rule.specs.declared.view.View.{View}
-use Rattle.rooms_rule.proofs.Deal.{opens}
+use Rattle.rooms_words.specs.KeptPart.{KeptPart}
+use Rattle.rooms_words.specs.World.{nodes_of}
+use Rattle.rooms_words.specs.Deal.{dealing, nobody}
+use Rattle.rooms_words.specs.Rule.{RoomRule}
+use Rattle.rooms_words.specs.Words.{IsProposerWord, IsAcceptorWord}
+use Rattle.rooms_words.specs.WordsOf.{ShowsKept}
+use Rattle.rooms_words.specs.declared.view.View.{View}
+use Rattle.rooms_words.proofs.Deal.{opens}
 use Rattle.rooms_table.specs.Deal.{dealing_all}
 use Rattle.rooms_table.specs.Family.{count_of, opening_in, room_in, rooms_in, words_in, FamilyRule}
 use Rattle.rooms_table.specs.Opened.{part_at, CanOpenAll, ShowFirst}

@@ -1,8 +1,8 @@
 -- How the seats of a family of rooms are dealt out as it opens, room by room and of each room node by node, and how one seat
 -- tells another what it has seen.
 use Rattle.std.specs.Prelude.{if◌then◌else◌, List, [], ◌∷◌, map}
-use Rattle.rooms_rule.specs.Deal.{dealing, dealing_rest, dealing_seat, informed, nobody, witness}
-use Rattle.rooms_rule.specs.declared.view.View.{View}
+use Rattle.rooms_words.specs.Deal.{dealing, dealing_rest, dealing_seat, informed, nobody, witness}
+use Rattle.rooms_words.specs.declared.view.View.{View}
 use Rattle.rooms_table.specs.Family.{opening_in, rooms_in, tabulated, view_in}
 use Rattle.rooms_table.specs.declared.view.Openings.{Openings}
 use Rattle.rooms_table.specs.declared.view.Views.{Views}

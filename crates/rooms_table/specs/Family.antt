@@ -3,10 +3,10 @@ use Rattle.std.specs.Prelude.{◌≡◌, ℕ, zero, suc, ◌*◌, ◌<◌, List,
 use mathlib.Core.Option.{some}
 use lib.ListN.{get_elem?}
 use Rattle.atomic_table.specs.Table.{State}
-use Rattle.rooms_rule.specs.Deal.{no_sizes, nobody}
-use Rattle.rooms_rule.specs.Rule.{RoomRule}
-use Rattle.rooms_rule.specs.declared.view.Opening.{Opening}
-use Rattle.rooms_rule.specs.declared.view.View.{View}
+use Rattle.rooms_words.specs.Deal.{no_sizes, nobody}
+use Rattle.rooms_words.specs.Rule.{RoomRule}
+use Rattle.rooms_words.specs.declared.view.Opening.{Opening}
+use Rattle.rooms_words.specs.declared.view.View.{View}
 use Rattle.rooms_table.specs.Places.{place_of}
 use Rattle.rooms_table.specs.declared.view.Openings.{Openings}
 use Rattle.rooms_table.specs.declared.view.Views.{Views}

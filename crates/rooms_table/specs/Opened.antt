@@ -1,10 +1,10 @@
 -- The words with which a family of rooms opens.
 use Rattle.std.specs.Prelude.{◌≡◌, ℕ, ◌/◌, ◌%◌, ◌<◌, ◌≤◌, List, length}
-use Rattle.paxos_core_world.specs.KeptPart.{KeptPart}
-use Rattle.paxos_core_world.specs.Quorum.{AreQuorums}
-use Rattle.paxos_core_world.specs.Settled.{Settled}
-use Rattle.paxos_core_world.specs.World.{nodes_of}
-use Rattle.rooms_rule.specs.WordsOf.{ShowsKept}
+use Rattle.rooms_words.specs.KeptPart.{KeptPart}
+use Rattle.rooms_words.specs.Quorum.{AreQuorums}
+use Rattle.rooms_words.specs.Settled.{Settled}
+use Rattle.rooms_words.specs.World.{nodes_of}
+use Rattle.rooms_words.specs.WordsOf.{ShowsKept}
 use Rattle.rooms_table.specs.Family.{count_of, opening_in}
 use Rattle.rooms_table.specs.declared.view.Openings.{Openings}
 

@@ -1,7 +1,7 @@
 -- What a step in one room of a table tells the seat that takes it.
 use Rattle.std.specs.Prelude.{◌≡◌, ◌≢◌, ℕ, ◌<◌, slice_set}
 use Rattle.atomic_table.specs.Table.{Step, Me, step}
-use Rattle.rooms_rule.specs.declared.view.View.{View}
+use Rattle.rooms_words.specs.declared.view.View.{View}
 use Rattle.rooms_table.specs.Family.{rooms_in, view_in}
 use Rattle.rooms_table.specs.Places.{place_of}
 use Rattle.rooms_table.specs.declared.view.Views.{Views}

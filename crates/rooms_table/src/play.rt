@@ -1,6 +1,6 @@
 use crate::view::Views;
 use atomic_table::Play;
-use rooms_rule::view::View;
+use rooms_words::view::View;
 use std::marker::PhantomData;
 
 /// A step in one room of a table tells what the step of that room tells.

@@ -1,4 +1,4 @@
-use rooms_rule::view::{Opening, View};
+use rooms_words::view::{Opening, View};
 use std::collections::LinkedList;
 
 /// How the rooms of a table were opened, all with as many nodes.

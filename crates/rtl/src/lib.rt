@@ -8,6 +8,6 @@ mod leaving;
 mod nodes;
 mod running;
 
+pub use rtl_acts::{Act, Arguments, Register, Test};
 pub use rtl_language::{Function, Instruction, Rtl, copy_instruction};
-pub use rtl_parts::{Act, Arguments, Register, Test};
 pub use running::run;

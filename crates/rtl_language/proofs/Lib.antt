@@ -1,1 +1,2 @@
 pub mod Short
+pub use Rattle.rtl_acts.proofs.Equal

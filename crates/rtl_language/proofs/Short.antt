@@ -1,7 +1,7 @@
 -- A function's calls have arguments few enough for a byte to say how many.
 use Rattle.std.proofs.Common.{ℕ, zero, suc, ◌<◌, ◌≤◌, List, [], ◌∷◌, length, get_or, arith}
 use Rattle.std.specs.List.{AllByRecursion}
-use Rattle.rtl_parts.specs.Fits.{argument_limit}
+use Rattle.rtl_acts.specs.Fits.{argument_limit}
 use Rattle.rtl_language.specs.declared.instruction.Instruction.{Instruction}
 use Rattle.rtl_language.specs.declared.instruction.Instruction.TheVariants.{Do, Call, Branch, Return}
 use Rattle.rtl_language.specs.Function.{InstructionFits, arguments_of, HasShortList}

@@ -5,10 +5,10 @@ use Rattle.std.specs.Cmp.{IsEquivalence}
 use Rattle.std.specs.Cmp.Lexicographic.{pointwise}
 use Rattle.std.proofs.lemmas.Bool.{eqb-true, and_parts, false≢true}
 use Rattle.std.proofs.lemmas.Cmp.{nat_eq_equiv, on_equiv, and_equiv, lists_equiv}
-use Rattle.lang_parts.proofs.Equal.{Tells, lists_tell, options_tell, number_tells}
-use Rattle.rtl_parts.specs.contracts.act.ActPartialEq.TheImpl as act_eq
-use Rattle.rtl_parts.specs.contracts.test.TestPartialEq.TheImpl as test_eq
-use Rattle.rtl_parts.proofs.Equal.{act_tells, test_tells}
+use Rattle.lang_helpers.proofs.Equal.{Tells, lists_tell, options_tell, number_tells}
+use Rattle.rtl_acts.specs.contracts.act.ActPartialEq.TheImpl as act_eq
+use Rattle.rtl_acts.specs.contracts.test.TestPartialEq.TheImpl as test_eq
+use Rattle.rtl_acts.proofs.Equal.{act_tells, test_tells}
 use Rattle.rtl_language.specs.contracts.instruction.InstructionPartialEq.TheImpl as instruction_eq
 use Rattle.rtl_language.specs.contracts.instruction.InstructionEq.TheImpl.Laws as instruction_laws
 use Rattle.rtl_language.specs.declared.instruction.Instruction.TheVariants.{Do, Call, Branch, Return}

@@ -3,19 +3,19 @@ use Rattle.std.proofs.Common.{◌≡◌, ℕ, ◌<◌, ◌≤◌, ◌^◌, List,
 use Rattle.std.specs.List.{AllByRecursion, flat_map}
 use Rattle.lang_base.specs.Reading.{byte, both, follow}
 use Rattle.lang_base.proofs.Forms.{IsForm}
-use Rattle.lang_parts.specs.Graphs.{node}
-use Rattle.lang_parts.specs.Limits.{function_number}
-use Rattle.lang_parts.proofs.Limits.{function_number_form}
-use Rattle.lang_parts.proofs.Graphs.{node_form, TwoNodesFit, two_nodes_form, AllNodesFit, GraphFits, nodes_form, graph_of_form}
+use Rattle.lang_helpers.specs.Graphs.{node}
+use Rattle.lang_helpers.specs.Limits.{function_number}
+use Rattle.lang_helpers.proofs.Limits.{function_number_form}
+use Rattle.lang_helpers.proofs.Graphs.{node_form, TwoNodesFit, two_nodes_form, AllNodesFit, GraphFits, nodes_form, graph_of_form}
 use Rattle.lang_base.proofs.Parts.{byte_form, made_takes, made_again, made_form, fits_form, both_form}
 use Rattle.lang_base.proofs.Lists.{counted_form, each_fits, fits_each, HasCode, TakesBehind, follow_form, coded_form, tagged_form}
-use Rattle.rtl_parts.specs.declared.act.Act.{Act}
-use Rattle.rtl_parts.specs.declared.act.Act.TheVariants.{Nop, Constant, Move, Operate, Load, Store, Put}
-use Rattle.rtl_parts.specs.declared.test.Test.{Test}
-use Rattle.rtl_parts.specs.Fits.{RegisterFits, TargetFits, ActFits, TestFits}
-use Rattle.rtl_parts.specs.Spelling.{byte_text, register_text, registers_text, target_text, act_code, act_body, test_text, frame_text}
-use Rattle.rtl_parts.specs.Reading.{register, target, asked, act, frame}
-use Rattle.rtl_parts.proofs.Forms.{register_form, target_form, test_form, act_form, FrameFits, frame_form}
+use Rattle.rtl_acts.specs.declared.act.Act.{Act}
+use Rattle.rtl_acts.specs.declared.act.Act.TheVariants.{Nop, Constant, Move, Operate, Load, Store, Put}
+use Rattle.rtl_acts.specs.declared.test.Test.{Test}
+use Rattle.rtl_acts.specs.Fits.{RegisterFits, TargetFits, ActFits, TestFits}
+use Rattle.rtl_acts.specs.Spelling.{byte_text, register_text, registers_text, target_text, act_code, act_body, test_text, frame_text}
+use Rattle.rtl_acts.specs.Reading.{register, target, asked, act, frame}
+use Rattle.rtl_acts.proofs.Forms.{register_form, target_form, test_form, act_form, FrameFits, frame_form}
 use Rattle.rtl_language.specs.declared.instruction.Instruction.{Instruction}
 use Rattle.rtl_language.specs.declared.instruction.Instruction.TheVariants.{Do, Call, Branch, Return}
 use Rattle.rtl_language.specs.Function.{FunctionData, InstructionFits, IsFunction, function_limit}

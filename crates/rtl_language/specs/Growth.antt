@@ -6,11 +6,11 @@ use Rattle.lang_base.specs.Machine.{Goes, Fails, Grows}
 use Rattle.lang_base.specs.declared.program.Named.{Named}
 use Rattle.lang_base.specs.declared.program.Program.{Program}
 use Rattle.lang_base.proofs.Beginnings.{IsBeginningOf-refl, IsBeginningOf-same}
-use Rattle.lang_parts.proofs.Growth.{PrintsOn, prints_grow}
+use Rattle.lang_helpers.proofs.Growth.{PrintsOn, prints_grow}
 use Rattle.lang_base.proofs.Simulation.{shows_is_run}
-use Rattle.rtl_parts.specs.Data.{Data, value_at}
-use Rattle.rtl_parts.specs.Acts.{does, holds}
-use Rattle.rtl_parts.proofs.Outputs.{PrintsAtLeast, does_prints, output-with_result}
+use Rattle.rtl_acts.specs.Data.{Data, value_at}
+use Rattle.rtl_acts.specs.Acts.{does, holds}
+use Rattle.rtl_acts.proofs.Outputs.{PrintsAtLeast, does_prints, output-with_result}
 use Rattle.rtl_language.specs.declared.instruction.Instruction.{Instruction}
 use Rattle.rtl_language.specs.declared.instruction.Instruction.TheVariants.{Do, Call, Branch, Return}
 use Rattle.rtl_language.specs.Function.{FunctionData}

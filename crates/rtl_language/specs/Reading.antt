@@ -1,9 +1,9 @@
 -- How a function of RTL is read.
 use Rattle.std.specs.Prelude.{ℕ, List, [], ◌∷◌}
-use Rattle.lang_parts.specs.Graphs.{node, graph_of}
-use Rattle.lang_parts.specs.Limits.{function_number}
+use Rattle.lang_helpers.specs.Graphs.{node, graph_of}
+use Rattle.lang_helpers.specs.Limits.{function_number}
 use Rattle.lang_base.specs.Reading.{Reading, byte, made, both, more, counted, Table, follow, coded, tagged}
-use Rattle.rtl_parts.specs.Reading.{register, target, asked, act, frame}
+use Rattle.rtl_acts.specs.Reading.{register, target, asked, act, frame}
 use Rattle.rtl_language.specs.declared.instruction.Instruction.{Instruction}
 use Rattle.rtl_language.specs.declared.instruction.Instruction.TheVariants.{Do, Call, Branch, Return}
 use Rattle.rtl_language.specs.Function.{FunctionData}

@@ -2,7 +2,7 @@
 use Rattle.std.specs.Prelude.{ℕ, List, ◌∷◌, ◌++◌}
 use Rattle.std.specs.Int.{w16, to_be_bytes}
 use Rattle.lang_base.specs.Texts.{counted_text}
-use Rattle.rtl_parts.specs.Spelling.{act_code, act_body, registers_text, target_text, test_text, frame_text}
+use Rattle.rtl_acts.specs.Spelling.{act_code, act_body, registers_text, target_text, test_text, frame_text}
 use Rattle.rtl_language.specs.declared.instruction.Instruction.{Instruction}
 use Rattle.rtl_language.specs.declared.instruction.Instruction.TheVariants.{Do, Call, Branch, Return}
 use Rattle.rtl_language.specs.Function.{FunctionData}

@@ -1,6 +1,6 @@
 use crate::instruction::Instruction;
-use rtl_parts::Register;
 use lang_base::Row;
+use rtl_acts::Register;
 use std::marker::Model;
 
 /// A function: the registers of its parameters, how many registers it has, the node where it begins,

@@ -1,5 +1,5 @@
-use rtl_parts::{Act, Register, Test};
 use lang_base::Row;
+use rtl_acts::{Act, Register, Test};
 
 /// A node of the graph: what it does, and where it goes on. Successors are node numbers.
 #[derive(PartialEq, Eq, Drop)]

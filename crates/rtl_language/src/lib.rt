@@ -13,4 +13,6 @@ mod writing;
 pub use copying::copy_instruction;
 pub use function::Function;
 pub use instruction::Instruction;
+pub use lang_helpers::{ReadOne, WriteOne, push_each, read_so_many};
 pub use language::Rtl;
+pub use rtl_acts::{Act, Arguments, Register, Test};

@@ -2,14 +2,14 @@
 //! bytes behind it, or the first fault.
 
 ghost use Rattle.lang_base.specs.Reading.{IsRead, Reads, items_of};
-ghost use Rattle.rtl_parts.specs.Reading.{register};
+ghost use Rattle.rtl_acts.specs.Reading.{register};
 ghost use Rattle.rtl_language.specs.Reading.{call_arguments, call, branch, plain, instruction, nodes, graph, parts, function};
 
 use crate::function::Function;
 use crate::instruction::Instruction;
 use lang_base::{FormError, Row, read_byte};
-use lang_parts::{ReadOne, are_bytes, read_ends, read_function_number, read_node, read_so_many};
-use rtl_parts::{Register, read_act, read_frame, read_register, read_target, read_test};
+use lang_helpers::{ReadOne, are_bytes, read_ends, read_function_number, read_node, read_so_many};
+use rtl_acts::{Register, read_act, read_frame, read_register, read_target, read_test};
 use std::alloc::Global;
 
 /// Reads registers of so many.

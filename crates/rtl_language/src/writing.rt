@@ -2,7 +2,7 @@
 
 ghost use Rattle.std.specs.Prelude.{◌≤◌, length};
 ghost use Rattle.lang_base.specs.Texts.{Appends};
-ghost use Rattle.rtl_parts.specs.Fits.{argument_limit};
+ghost use Rattle.rtl_acts.specs.Fits.{argument_limit};
 ghost use Rattle.rtl_language.specs.declared.instruction.Instruction.TheVariants.{Call, Branch};
 ghost use Rattle.rtl_language.specs.Function.{HasShortList};
 ghost use Rattle.rtl_language.specs.Spelling.{instruction_text, spelling};
@@ -10,8 +10,8 @@ ghost use Rattle.rtl_language.specs.Spelling.{instruction_text, spelling};
 use crate::function::Function;
 use crate::instruction::Instruction;
 use lang_base::{NoMemory, push_byte, push_u16};
-use rtl_parts::{Register, Test, push_act, push_frame, push_registers, push_target, push_test};
-use lang_parts::{WriteOne, push_each};
+use lang_helpers::{WriteOne, push_each};
+use rtl_acts::{Register, Test, push_act, push_frame, push_registers, push_target, push_test};
 
 /// A call: the function, the arguments, the target, and the successor.
 fn push_call(

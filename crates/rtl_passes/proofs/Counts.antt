@@ -3,11 +3,11 @@ use Rattle.std.proofs.Common.{◌≡◌, ℕ, List, [], ◌∷◌, length, set, 
 use Rattle.std.specs.Prelude.{option_and_then, slice_get, slice_set, nat_lt}
 use Rattle.std.specs.Option.{option_map}
 use Rattle.std.proofs.lemmas.List.{length-set}
-use Rattle.ints.specs.MachineTable.{machine_table}
-use Rattle.rtl_parts.specs.declared.act.Act.{Act}
-use Rattle.rtl_parts.specs.declared.act.Act.TheVariants.{Nop, Constant, Move, Operate, Load, Store, Put}
-use Rattle.rtl_parts.specs.Data.{Data, value_at}
-use Rattle.rtl_parts.specs.Acts.{words_of, given, with_result, word_in, changed, stored, printing, does, holds}
+use Rattle.rtl_language.specs.MachineTable.{machine_table}
+use Rattle.rtl_language.specs.Act.{Act}
+use Rattle.rtl_language.specs.Act.TheVariants.{Nop, Constant, Move, Operate, Load, Store, Put}
+use Rattle.rtl_language.specs.Data.{Data, value_at}
+use Rattle.rtl_language.specs.Acts.{words_of, given, with_result, word_in, changed, stored, printing, does, holds}
 use Rattle.rtl_language.specs.declared.instruction.Instruction.{Instruction}
 use Rattle.rtl_language.specs.declared.instruction.Instruction.TheVariants.{Do, Call, Branch, Return}
 use Rattle.rtl_language.specs.Frames.{with_arguments}

@@ -8,8 +8,8 @@ use Rattle.lang_base.specs.declared.program.Named.{Named}
 use Rattle.lang_base.specs.Soundness.{AcceptedInTurn}
 use Rattle.lang_base.specs.declared.shown.Shown.TheVariants as shown
 use Rattle.lang_base.proofs.Simulation.{leads-step}
-use Rattle.rtl_parts.specs.Data.{Data}
-use Rattle.rtl_parts.specs.Acts.{does, holds}
+use Rattle.rtl_language.specs.Data.{Data}
+use Rattle.rtl_language.specs.Acts.{does, holds}
 use Rattle.rtl_language.specs.declared.instruction.Instruction.{Instruction}
 use Rattle.rtl_language.specs.declared.instruction.Instruction.TheVariants.{Do, Call, Branch, Return}
 use Rattle.rtl_language.specs.Function.{FunctionData}

@@ -10,8 +10,8 @@ use Rattle.lang_base.specs.declared.program.Named.{Named}
 use Rattle.lang_base.specs.declared.program.Program.{Program}
 use Rattle.lang_base.specs.Soundness.{Accepted, AcceptedInTurn}
 use Rattle.lang_base.proofs.Simulation.{keeps-matches}
-use Rattle.machine.specs.Frames.{main_number}
-use Rattle.rtl_parts.specs.Data.{Data}
+use Rattle.rtl_language.specs.MachineFrames.{main_number}
+use Rattle.rtl_language.specs.Data.{Data}
 use Rattle.rtl_language.specs.Function.{FunctionData}
 use Rattle.rtl_language.specs.Frames.{State, printed}
 use Rattle.rtl_language.specs.Meaning.{function_step, next, takes_none, begins, run}

@@ -1,7 +1,7 @@
 -- What an instruction does from some data, whatever waits below its function (Leroy 2009, section 3.2).
 use Rattle.std.specs.Prelude.{◌≡◌, ℕ, List, Option, Some, None, Bool, map, if◌then◌else◌}
-use Rattle.rtl_parts.specs.Data.{Data, value_at}
-use Rattle.rtl_parts.specs.Acts.{does, holds, with_result}
+use Rattle.rtl_language.specs.Data.{Data, value_at}
+use Rattle.rtl_language.specs.Acts.{does, holds, with_result}
 use Rattle.rtl_language.specs.declared.instruction.Instruction.{Instruction}
 use Rattle.rtl_language.specs.declared.instruction.Instruction.TheVariants.{Do, Call, Branch, Return}
 use Rattle.rtl_language.specs.Frames.{returned}

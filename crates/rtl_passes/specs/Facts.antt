@@ -3,8 +3,8 @@
 use Rattle.std.specs.Prelude.{◌≡◌, ◌≢◌, ℕ, List, length, Option, Some, slice_get}
 use Rattle.std.specs.List.{AllByRecursion}
 use Rattle.lang_base.specs.declared.program.Named.{Named}
-use Rattle.rtl_parts.specs.Data.{Data}
-use Rattle.rtl_parts.specs.Acts.{with_result}
+use Rattle.rtl_language.specs.Data.{Data}
+use Rattle.rtl_language.specs.Acts.{with_result}
 use Rattle.rtl_language.specs.declared.instruction.Instruction.{Instruction}
 use Rattle.rtl_language.specs.Function.{FunctionData}
 use Rattle.rtl_language.specs.Frames.{Frame, State}

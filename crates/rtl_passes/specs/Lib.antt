@@ -3,3 +3,14 @@ pub mod Effects
 pub mod Facts
 pub mod Faults
 pub mod ListForm
+pub use Rattle.rtl_language.specs.Data
+pub use Rattle.rtl_language.specs.Frames
+pub use Rattle.rtl_language.specs.Function
+pub use Rattle.rtl_language.specs.declared.instruction.Instruction
+pub use Rattle.rtl_language.specs.Meaning
+pub use Rattle.rtl_language.specs.Acts
+pub use Rattle.rtl_language.specs.Fits
+pub use Rattle.rtl_language.specs.RtlActsSpelling
+pub use Rattle.rtl_language.specs.Act
+pub use Rattle.rtl_language.specs.Arguments
+pub use Rattle.rtl_language.specs.Test

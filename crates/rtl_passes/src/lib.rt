@@ -10,5 +10,9 @@ mod shape;
 
 pub use empty::empty_lists;
 pub use nodes::with_nodes;
+pub use rtl_language::{
+    Act, Arguments, Function, Instruction, ReadOne, Register, Rtl, Test, WriteOne, push_each,
+    read_so_many,
+};
 pub use same::is_same;
 pub use shape::has_same_shape;

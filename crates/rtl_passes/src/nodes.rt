@@ -1,8 +1,8 @@
 ghost use Rattle.std.specs.Prelude.{◌≡◌, All, length, IfOk};
 ghost use Rattle.rtl_language.specs.Function.{InstructionFits};
 
-use rtl_language::{Function, Instruction};
 use lang_base::{NoMemory, Row};
+use rtl_language::{Function, Instruction};
 use std::alloc::Global;
 
 /// The function with these instructions, which are in range and as many as its own.

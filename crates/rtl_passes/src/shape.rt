@@ -3,8 +3,7 @@
 ghost use Rattle.std.specs.Prelude.{◌≡◌, ◌↔◌, IsTrue};
 ghost use Rattle.rtl_passes.specs.Shape.{HasSameShape};
 
-use rtl_language::Function;
-use rtl_parts::Register;
+use rtl_language::{Function, Register};
 
 /// Whether the parameters, registers, entries and numbers of nodes are the same.
 pub fn has_same_shape(input: &Function, output: &Function) -> bool

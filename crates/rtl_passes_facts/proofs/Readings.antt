@@ -1,7 +1,7 @@
 -- What is read at a node tells of the node.
 use Rattle.std.proofs.Common.{◌≡◌, ℕ, List, Some, subst}
 use Rattle.std.specs.Prelude.{slice_get}
-use Rattle.rtl_language.specs.declared.instruction.Instruction.{Instruction}
+use Rattle.rtl_passes_marks.specs.Instruction.{Instruction}
 use Rattle.rtl_passes_filled.specs.Rules.{RulesOf, IsRightAs, IsRightIn}
 
 module _ {A : Type 0} (rules : RulesOf A) (first : ℕ) (inputs outputs : List Instruction) (lists : List (List A)) (n : ℕ) (i o : Instruction) (is_input : slice_get inputs n ≡ Some i) (is_output : slice_get outputs n ≡ Some o) where

@@ -1,7 +1,7 @@
 -- Rows that can be written have space for their numbers.
 use Rattle.std.proofs.Common.{List, length, get_or}
 use Rattle.std.proofs.lemmas.List.Elements.{All-from_recursion}
-use Rattle.rtl_language.specs.Function.{FunctionData}
+use Rattle.rtl_passes_marks.specs.Function.{FunctionData}
 use Rattle.rtl_passes_marks.specs.declared.row.NodeRow.{NodeRow}
 use Rattle.rtl_passes_marks.specs.RowForm.{RowFits}
 use Rattle.rtl_passes_marks.specs.Short.{AreShort}

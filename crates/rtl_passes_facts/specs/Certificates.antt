@@ -1,6 +1,6 @@
 -- Certificates that can be written beside an input.
 use Rattle.std.specs.Prelude.{◌≤◌, ◌^◌, List, length}
-use Rattle.rtl_language.specs.Function.{FunctionData}
+use Rattle.rtl_passes_marks.specs.Function.{FunctionData}
 use Rattle.rtl_passes_marks.specs.declared.row.NodeRow.{NodeRow}
 use Rattle.rtl_passes_marks.specs.RowForm.{RowsFit}
 use Rattle.rtl_passes_filled.specs.Rules.{RulesOf}

@@ -1,7 +1,7 @@
 -- What is asked of a node whose facts were handed to it: edges to marked nodes alone tell.
 use Rattle.std.specs.Prelude.{◌≡◌, ℕ, List, [], Option, All, slice_get}
-use Rattle.rtl_language.specs.declared.instruction.Instruction.{Instruction}
-use Rattle.rtl_language.specs.Function.{FunctionData}
+use Rattle.rtl_passes_marks.specs.Instruction.{Instruction}
+use Rattle.rtl_passes_marks.specs.Function.{FunctionData}
 use Rattle.rtl_passes_marks.specs.declared.row.NodeRow.{NodeRow}
 use Rattle.rtl_passes_marks.specs.Ranked.{RiseFrom}
 use Rattle.rtl_passes_marks.specs.Edges.{edges_of}

@@ -4,8 +4,8 @@ use Rattle.std.specs.Prelude.{All}
 use Rattle.std.proofs.lemmas.List.Elements.{recursion_from_All}
 use Rattle.lang_base.specs.Reading.{Reading}
 use Rattle.lang_base.proofs.Forms.{IsForm, one_text}
-use Rattle.rtl_language.specs.Function.{FunctionData, IsFunction}
-use Rattle.rtl_passes.specs.ListForm.{ListFits}
+use Rattle.rtl_passes_marks.specs.Function.{FunctionData, IsFunction}
+use Rattle.rtl_passes_marks.specs.ListForm.{ListFits}
 use Rattle.rtl_passes_marks.specs.declared.row.NodeRow.{NodeRow}
 use Rattle.rtl_passes_marks.specs.Rows.{IsRow, AreRows, place_of}
 use Rattle.rtl_passes_marks.specs.RowForm.{RowFits, rows_text, rows_form}

@@ -3,8 +3,7 @@ ghost use Rattle.rtl_passes_filled.specs.Accepted.{IsAccepted};
 
 use crate::rules::Rules;
 use lang_base::{Language, NoMemory, Row};
-use rtl_language::{Function, Rtl};
-use rtl_passes_marks::NodeRow;
+use rtl_passes_marks::{Function, NodeRow, Rtl};
 use std::alloc::Global;
 
 /// The input itself, with no facts at marked nodes.

@@ -2,13 +2,12 @@
 
 ghost use Rattle.std.specs.Prelude.{◌≡◌, OnOk};
 ghost use Rattle.rtl_passes_marks.specs.Ranked.{RiseFrom};
-ghost use Rattle.rtl_passes_filled.specs.Filled.{behind};
-ghost use Rattle.rtl_passes_filled.specs.Filled.{put_in as put_among};
+ghost use Rattle.rtl_passes_filled.specs.Filled.{behind, put_in as put_among};
 ghost use Rattle.rtl_passes_filled.specs.Places.{IsFirstFrom};
 
 use crate::rules::Rules;
 use lang_base::NoMemory;
-use rtl_language::Instruction;
+use rtl_passes_marks::Instruction;
 
 /// Finds the first fact that has no lower place than this, by halves.
 fn first_from<R: Rules>(facts: &[R::Fact], least: u64) -> usize

@@ -17,6 +17,10 @@ mod writing;
 pub use base::unchanged;
 pub use edges::Edges;
 pub use reading::read_certificate;
+pub use rtl_passes_filled::list_at;
+pub use rtl_passes_marks::{
+    Act, Arguments, Function, Instruction, NodeRow, Register, Rtl, entries_of, is_same,
+};
 pub use rules::Rules;
 pub use verdict::{check, why};
 pub use writing::write_certificate;

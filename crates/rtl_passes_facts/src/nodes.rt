@@ -2,8 +2,8 @@
 //! The rows are borrowed; of those alone that are handed on a copy is made.
 
 ghost use Rattle.std.specs.Prelude.{◌≡◌, ◌↔◌, ◌<◌, [], length, All, IsTrue, IfOk, OnOk};
-ghost use Rattle.rtl_passes.specs.Faults.{TellsLowest};
-ghost use Rattle.rtl_passes.specs.Shape.{HasSameShape};
+ghost use Rattle.rtl_passes_marks.specs.Faults.{TellsLowest};
+ghost use Rattle.rtl_passes_marks.specs.Shape.{HasSameShape};
 ghost use Rattle.rtl_passes_marks.specs.Handing.{IsMarkedBy};
 ghost use Rattle.rtl_passes_marks.specs.Marks.{AreFeeders};
 ghost use Rattle.rtl_passes_marks.specs.Ranked.{RiseFrom};
@@ -16,9 +16,9 @@ use crate::edges::Edges;
 use crate::rules::Rules;
 use crate::walk::are_known;
 use lang_base::{NoMemory, Row};
-use rtl_language::{Function, Instruction};
-use rtl_passes_marks::{NodeRow, Said, feeds_any, hand_on, is_fed, take};
-use rtl_passes::{empty_lists, is_same};
+use rtl_passes_marks::{
+    Function, Instruction, NodeRow, Said, empty_lists, feeds_any, hand_on, is_fed, is_same, take,
+};
 use std::alloc::Global;
 
 /// Finds the lowest node that breaks a rule.

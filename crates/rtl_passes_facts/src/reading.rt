@@ -8,8 +8,7 @@ ghost use Rattle.rtl_passes_facts.specs.Certificates.{CertFits};
 use crate::entries::Facts;
 use crate::rules::Rules;
 use lang_base::{FormError, Row};
-use rtl_language::Function;
-use rtl_passes_marks::{NodeRow, read_rows};
+use rtl_passes_marks::{Function, NodeRow, read_rows};
 use std::alloc::Global;
 
 /// The certificate beside this input whose spelling is a front of the bytes, and how long that is.

@@ -3,7 +3,7 @@ ghost use Rattle.std.specs.List.{AllByRecursion, filter};
 ghost use Rattle.lang_base.specs.Reading.{Reading, IsRead};
 ghost use Rattle.lang_base.specs.Texts.{Appends};
 ghost use Rattle.lang_base.proofs.Forms.{IsForm};
-ghost use Rattle.rtl_language.specs.declared.instruction.Instruction.{Instruction};
+ghost use Rattle.rtl_passes_marks.specs.Instruction.{Instruction};
 ghost use Rattle.rtl_passes_marks.specs.Edges.{edges_of};
 ghost use Rattle.rtl_passes_marks.specs.Ranked.{RiseFrom};
 ghost use Rattle.rtl_passes_facts.specs.Edges.{nodes_of};
@@ -12,7 +12,7 @@ ghost use Rattle.rtl_passes_filled.specs.Rules.{RulesOf};
 
 use crate::edges::Edges;
 use lang_base::{FormError, NoMemory};
-use rtl_language::Instruction;
+use rtl_passes_marks::Instruction;
 
 /// The rules of a pass from RTL to RTL that goes by facts of each node.
 pub trait Rules {

@@ -7,9 +7,7 @@ use crate::entries::Facts;
 use crate::nodes::lowest_wrong;
 use crate::rules::Rules;
 use lang_base::{Fault, NoMemory};
-use rtl_language::Function;
-use rtl_passes_marks::{NodeRow, are_rows, feeders_of};
-use rtl_passes::has_same_shape;
+use rtl_passes_marks::{Function, NodeRow, are_rows, feeders_of, has_same_shape};
 use std::alloc::Global;
 
 /// What is wrong with the output and the rows, if anything is. Time is linear in nodes, rows and what is filled in; of

@@ -5,7 +5,7 @@ ghost use Rattle.rtl_passes_marks.specs.Ranked.{RiseFrom};
 ghost use Rattle.rtl_passes_filled.specs.Known.{IsMadeOrKept};
 
 use crate::rules::Rules;
-use rtl_language::Instruction;
+use rtl_passes_marks::Instruction;
 
 /// The facts from this place on.
 fn from_place<R: Rules>(facts: &[R::Fact], least: u64) -> &[R::Fact]

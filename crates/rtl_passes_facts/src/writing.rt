@@ -7,8 +7,7 @@ ghost use Rattle.rtl_passes_facts.specs.Certificates.{CertFits};
 use crate::entries::Facts;
 use crate::rules::Rules;
 use lang_base::NoMemory;
-use rtl_language::Function;
-use rtl_passes_marks::{NodeRow, write_rows};
+use rtl_passes_marks::{Function, NodeRow, write_rows};
 
 /// Writes the rows beside this input at the end of `out`, which a refusal leaves as it was.
 pub fn write_certificate<R: Rules>(

@@ -5,7 +5,7 @@ use Rattle.std.specs.List.{filter}
 use Rattle.std.proofs.lemmas.Bool.{cases_lt, ltb-true, lt-ltb}
 use Rattle.std.proofs.lemmas.List.{get_or_default}
 use Rattle.std.proofs.lemmas.List.Elements.{All-cons, All-tail, All-filter, filter_passes}
-use Rattle.rtl_language.specs.declared.instruction.Instruction.{Instruction}
+use Rattle.rtl_passes_marks.specs.Instruction.{Instruction}
 use Rattle.rtl_passes_marks.specs.Ranked.{RiseFrom}
 use Rattle.rtl_passes_filled.specs.Known.{IsMadeOrKept}
 use Rattle.rtl_passes_filled.specs.Rules.{RulesOf}

@@ -3,7 +3,7 @@ use Rattle.std.proofs.Common.{◌≡◌, ℕ, zero, suc, ◌<◌, ◌≤◌, Lis
 use Rattle.std.specs.Prelude.{◌↔◌, All, Contains, slice_get}
 use Rattle.std.proofs.lemmas.Bool.{cases_lt}
 use Rattle.std.proofs.lemmas.List.{get_or_past}
-use Rattle.rtl_language.specs.declared.instruction.Instruction.{Instruction}
+use Rattle.rtl_passes_marks.specs.Instruction.{Instruction}
 use Rattle.rtl_passes_marks.specs.declared.row.NodeRow.{NodeRow}
 use Rattle.rtl_passes_marks.specs.Ranked.{RiseFrom}
 use Rattle.rtl_passes_marks.specs.Edges.{edges_of}

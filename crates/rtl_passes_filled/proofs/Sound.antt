@@ -6,16 +6,16 @@ use Rattle.std.proofs.lemmas.Bool.{cases_lt}
 use Rattle.std.proofs.lemmas.List.{get_or_past}
 use Rattle.std.proofs.lemmas.List.Elements.{All-tail, All-filter, All-from_recursion}
 use Rattle.std.proofs.lemmas.Option.{slice_get_within, slice_get-get_or, slice_get_cases, get_or_from_slice_get}
-use Rattle.lang_base.specs.Keeps.{Keeps}
-use Rattle.lang_base.specs.declared.program.Named.{Named}
-use Rattle.lang_base.specs.declared.program.Program.{Program}
-use Rattle.lang_base.specs.Soundness.{AllFit, AcceptedInTurn, Accepted}
-use Rattle.rtl_parts.specs.Data.{Data}
-use Rattle.rtl_language.specs.declared.instruction.Instruction.{Instruction}
-use Rattle.rtl_language.specs.Function.{FunctionData, InstructionFits, IsFunction}
-use Rattle.rtl_language.specs.Meaning.{run}
-use Rattle.rtl_passes.specs.Effects.{Faults, effect_of, HoldsAfter}
-use Rattle.rtl_passes.specs.Facts.{IsMatched, IsStepwise}
+use Rattle.rtl_passes_marks.specs.Keeps.{Keeps}
+use Rattle.rtl_passes_marks.specs.Named.{Named}
+use Rattle.rtl_passes_marks.specs.Program.{Program}
+use Rattle.rtl_passes_marks.specs.Soundness.{AllFit, AcceptedInTurn, Accepted}
+use Rattle.rtl_passes_marks.specs.Data.{Data}
+use Rattle.rtl_passes_marks.specs.Instruction.{Instruction}
+use Rattle.rtl_passes_marks.specs.Function.{FunctionData, InstructionFits, IsFunction}
+use Rattle.rtl_passes_marks.specs.Meaning.{run}
+use Rattle.rtl_passes_marks.specs.Effects.{Faults, effect_of, HoldsAfter}
+use Rattle.rtl_passes_marks.specs.Facts.{IsMatched, IsStepwise}
 use Rattle.rtl_passes_marks.proofs.Sound.{stepwise_keeps}
 use Rattle.rtl_passes_marks.specs.declared.row.NodeRow.{NodeRow}
 use Rattle.rtl_passes_filled.specs.Known.{IsMadeOrKept}

@@ -1,9 +1,9 @@
 -- What a pass accepts that goes by facts of each node, with rows at marked nodes alone.
 use Rattle.std.specs.Prelude.{List, length, Option}
-use Rattle.lang_base.specs.declared.fault.Fault.{Fault}
-use Rattle.rtl_language.specs.Function.{FunctionData}
-use Rattle.rtl_passes.specs.Shape.{HasSameShape}
-use Rattle.rtl_passes.specs.Faults.{KeepsRules, TellsFault}
+use Rattle.rtl_passes_marks.specs.Fault.{Fault}
+use Rattle.rtl_passes_marks.specs.Function.{FunctionData}
+use Rattle.rtl_passes_marks.specs.Shape.{HasSameShape}
+use Rattle.rtl_passes_marks.specs.Faults.{KeepsRules, TellsFault}
 use Rattle.rtl_passes_marks.specs.declared.row.NodeRow.{NodeRow}
 use Rattle.rtl_passes_marks.specs.Rows.{AreRows}
 use Rattle.rtl_passes_filled.specs.Rules.{RulesOf, IsInOrder, IsRightAt}

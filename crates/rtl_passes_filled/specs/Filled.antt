@@ -2,8 +2,8 @@
 -- behind the one that feeds it, whether or not the edge can be taken. Filled lists have no limit of length.
 use Rattle.std.specs.Prelude.{ℕ, zero, suc, List, [], ◌∷◌, ◌++◌, length, Option, Some, None, slice_get, nat_lt, if◌then◌else◌}
 use Rattle.std.specs.List.{filter}
-use Rattle.rtl_language.specs.declared.instruction.Instruction.{Instruction}
-use Rattle.rtl_language.specs.Function.{FunctionData}
+use Rattle.rtl_passes_marks.specs.Instruction.{Instruction}
+use Rattle.rtl_passes_marks.specs.Function.{FunctionData}
 use Rattle.rtl_passes_marks.specs.declared.row.NodeRow.{NodeRow}
 use Rattle.rtl_passes_marks.specs.Marks.{feeder}
 use Rattle.rtl_passes_marks.specs.Rows.{entries_at}

@@ -3,3 +3,15 @@ pub mod Rules
 pub mod Filled
 pub mod Accepted
 pub mod Places
+pub use Rattle.rtl_passes_marks.specs.Effects
+pub use Rattle.rtl_passes_marks.specs.Ranked
+pub use Rattle.rtl_passes_marks.specs.declared.row.NodeRow
+pub use Rattle.rtl_passes_marks.specs.Function
+pub use Rattle.rtl_passes_marks.specs.Meaning
+pub use Rattle.rtl_passes_marks.specs.Instruction
+pub use Rattle.rtl_passes_marks.specs.Acts
+pub use Rattle.rtl_passes_marks.specs.Data
+pub use Rattle.rtl_passes_marks.specs.Fits
+pub use Rattle.rtl_passes_marks.specs.Act
+pub use Rattle.rtl_passes_marks.specs.Arguments
+pub use Rattle.rtl_passes_marks.specs.Test

@@ -1,8 +1,8 @@
 -- What a pass asks of facts at nodes, over the pass's own rules.
 use Rattle.std.specs.Prelude.{◌≡◌, ◌⊎◌, ℕ, ◌<◌, ◌^◌, Bool, List, [], length, Option, Some, All, slice_get, slice_index_or}
-use Rattle.rtl_language.specs.declared.instruction.Instruction.{Instruction}
-use Rattle.rtl_language.specs.Function.{FunctionData}
-use Rattle.rtl_passes.specs.Shape.{HasSameShape}
+use Rattle.rtl_passes_marks.specs.Instruction.{Instruction}
+use Rattle.rtl_passes_marks.specs.Function.{FunctionData}
+use Rattle.rtl_passes_marks.specs.Shape.{HasSameShape}
 
 -- The rules of a pass: which facts there can be among so many registers, which lists of them are in order, the place of
 -- each among all, the register that it speaks of; where an instruction can go on, the fact that it makes known where

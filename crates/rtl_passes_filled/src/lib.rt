@@ -5,3 +5,4 @@
 mod lists;
 
 pub use lists::list_at;
+pub use rtl_passes_marks::{Act, Arguments, Instruction, Register, Test};

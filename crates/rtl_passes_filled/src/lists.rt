@@ -1,7 +1,7 @@
 ghost use Rattle.std.specs.Prelude.{◌≡◌};
 ghost use Rattle.rtl_passes_filled.specs.Rules.{facts_at};
 
-use lang_base::Row;
+use rtl_passes_marks::Row;
 
 /// The facts at a node.
 pub fn list_at<T>(lists: &[Row<T>], node: usize) -> &[T]

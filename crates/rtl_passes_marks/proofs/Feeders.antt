@@ -4,7 +4,7 @@ use Rattle.std.specs.Prelude.{slice_get, slice_set}
 use Rattle.std.proofs.lemmas.Bool.{eqb-true, eq-eqb}
 use Rattle.std.proofs.lemmas.List.{get_or-set_same, get_or-set_other, length-set, length-replicate, get_or-replicate}
 use Rattle.std.proofs.lemmas.Option.{slice_get_within, slice_get-get_or, get_or_from_slice_get, slice_get_cases}
-use Rattle.rtl_language.specs.declared.instruction.Instruction.{Instruction}
+use Rattle.rtl_passes.specs.Instruction.{Instruction}
 use Rattle.rtl_passes_marks.specs.declared.marks.Came.{Came}
 use Rattle.rtl_passes_marks.specs.declared.marks.Came.TheVariants.{Never, Once, Often}
 use Rattle.rtl_passes_marks.specs.Edges.{edges_of, each_to, sources_from, sources}

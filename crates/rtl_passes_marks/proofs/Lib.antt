@@ -4,3 +4,4 @@ pub mod Short
 pub mod Handings
 pub mod Numbers
 pub mod Sound
+pub use Rattle.rtl_passes.proofs.Verdicts

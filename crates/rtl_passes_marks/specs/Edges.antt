@@ -1,7 +1,7 @@
 -- The edges of a function's graph.
 use Rattle.std.specs.Prelude.{ℕ, suc, List, [], ◌∷◌, ◌++◌, nat_eq, if◌then◌else◌}
-use Rattle.rtl_language.specs.declared.instruction.Instruction.{Instruction}
-use Rattle.rtl_language.specs.declared.instruction.Instruction.TheVariants.{Do, Call, Branch, Return}
+use Rattle.rtl_passes.specs.Instruction.{Instruction}
+use Rattle.rtl_passes.specs.Instruction.TheVariants.{Do, Call, Branch, Return}
 
 -- where an edge of an instruction leads, whether or not it can be taken: the two arms of a branch are two edges
 abbrev pub edges_of : Instruction → List ℕ

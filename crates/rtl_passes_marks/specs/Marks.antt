@@ -1,6 +1,6 @@
 -- Which nodes of a function are marked: what is known at the others can be told from the one node that leads there.
 use Rattle.std.specs.Prelude.{◌≡◌, ℕ, ◌<◌, List, [], ◌∷◌, length, Option, Some, None, nat_eq, nat_lt, slice_get, if◌then◌else◌}
-use Rattle.rtl_language.specs.declared.instruction.Instruction.{Instruction}
+use Rattle.rtl_passes.specs.Instruction.{Instruction}
 use Rattle.rtl_passes_marks.specs.Edges.{sources}
 
 -- the only one of these nodes, where it is lower than s

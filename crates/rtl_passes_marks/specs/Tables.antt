@@ -1,6 +1,6 @@
 -- Feeders of all nodes, as one walk over the instructions tells them.
 use Rattle.std.specs.Prelude.{ℕ, suc, List, [], ◌∷◌, length, Option, None, Some, replicate, nat_eq, nat_lt, slice_get, slice_set, if◌then◌else◌}
-use Rattle.rtl_language.specs.declared.instruction.Instruction.{Instruction}
+use Rattle.rtl_passes.specs.Instruction.{Instruction}
 use Rattle.rtl_passes_marks.specs.declared.marks.Came.{Came}
 use Rattle.rtl_passes_marks.specs.declared.marks.Came.TheVariants.{Never, Once, Often}
 use Rattle.rtl_passes_marks.specs.Edges.{edges_of}

@@ -8,7 +8,7 @@ ghost use Rattle.rtl_passes_marks.specs.Within.{IsMarkedWithin};
 
 use crate::entries::Entries;
 use crate::row::NodeRow;
-use rtl_language::Function;
+use rtl_passes::Function;
 
 /// Whether the rows are for marked nodes, by rising nodes, none of them empty, each with entries in order. What feeds
 /// each node was told before.

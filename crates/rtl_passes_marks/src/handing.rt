@@ -4,8 +4,8 @@ ghost use Rattle.std.specs.Prelude.{◌≡◌, ◌<◌, [], length, slice_get, s
 ghost use Rattle.rtl_passes_marks.specs.Edges.{edges_of};
 ghost use Rattle.rtl_passes_marks.specs.Handing.{is_fed_by, feeds_by, feeds_one, handed_to, handed_on as handed};
 
-use rtl_language::Instruction;
 use lang_base::{NoMemory, Row};
+use rtl_passes::Instruction;
 use std::alloc::Global;
 use std::mem;
 

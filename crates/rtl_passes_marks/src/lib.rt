@@ -16,8 +16,13 @@ mod writing;
 pub use entries::Entries;
 pub use form::are_rows;
 pub use handing::{feeds_any, hand_on, is_fed, take};
+pub use lang_base::Row;
 pub use marks::{Came, feeders_of};
 pub use reading::read_rows;
 pub use row::{NodeRow, entries_of};
+pub use rtl_passes::{
+    Act, Arguments, Function, Instruction, Register, Rtl, Test, empty_lists, has_same_shape,
+    is_same, with_nodes,
+};
 pub use said::Said;
 pub use writing::write_rows;

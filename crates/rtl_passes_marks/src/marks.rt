@@ -7,8 +7,8 @@ ghost use Rattle.rtl_passes_marks.specs.Tables.{all_noted, walked, feeder_by, fe
 ghost use Rattle.rtl_passes_marks.specs.Tables.{once_more as once_more_by, noted as noted_by};
 ghost use Rattle.rtl_passes_marks.specs.declared.marks.Came.TheVariants.{Never};
 
-use rtl_language::{Function, Instruction};
 use lang_base::NoMemory;
+use rtl_passes::{Function, Instruction};
 use std::alloc::Global;
 
 /// From where edges come to a node.

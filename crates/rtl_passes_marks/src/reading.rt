@@ -8,7 +8,7 @@ ghost use Rattle.rtl_passes_marks.specs.RowForm.{row, rows};
 use crate::entries::Entries;
 use crate::row::NodeRow;
 use lang_base::{FormError, Row, read_u16, read_u16_below};
-use lang_parts::{ReadOne, read_so_many};
+use rtl_passes::{ReadOne, read_so_many};
 use std::alloc::Global;
 use std::marker::PhantomData;
 

@@ -9,7 +9,7 @@ ghost use Rattle.rtl_passes_marks.specs.Short.{IsShort, AreShort};
 use crate::entries::Entries;
 use crate::row::NodeRow;
 use lang_base::{NoMemory, push_u16};
-use lang_parts::{WriteOne, push_each};
+use rtl_passes::{WriteOne, push_each};
 use std::marker::PhantomData;
 
 /// Writes an entry.

@@ -5,8 +5,8 @@ use Rattle.ints.specs.declared.operators.Op.TheVariants.{SubS}
 use Rattle.ints.specs.declared.conditions.Cond.TheVariants.{Nz}
 use Rattle.lang_base.specs.declared.shown.Shown.TheVariants.{Ended}
 use Rattle.lang_base.specs.declared.program.Program.{Program}
-use Rattle.rtl_parts.specs.declared.arguments.Arguments.TheVariants.{One, Two}
-use Rattle.rtl_parts.specs.declared.act.Act.TheVariants.{Nop, Constant, Operate}
+use Rattle.rtl_acts.specs.declared.arguments.Arguments.TheVariants.{One, Two}
+use Rattle.rtl_acts.specs.declared.act.Act.TheVariants.{Nop, Constant, Operate}
 use Rattle.rtl_language.specs.declared.instruction.Instruction.TheVariants.{Do, Call, Branch, Return}
 use Rattle.rtl_language.specs.Meaning as R
 use Rattle.cminor_syntax.specs.Trees.{FunctionTree}

@@ -3,7 +3,7 @@ use Rattle.std.proofs.Common.{◌≡◌, ◌≢◌, ℕ, zero, suc, ◌+◌, ◌
 use Rattle.std.specs.List.{AllByRecursion}
 use Rattle.std.proofs.lemmas.List.{length-append}
 use Rattle.machine.specs.Fits.{AreDistinct}
-use Rattle.rtl_parts.specs.Fits.{RegisterFits}
+use Rattle.rtl_acts.specs.Fits.{RegisterFits}
 use Rattle.rtl_language.specs.declared.instruction.Instruction.TheVariants.{Return}
 use Rattle.rtl_language.specs.Function as R
 use Rattle.cminor_syntax.specs.Trees.{StatementTree, StatementsTree, FunctionTree}

@@ -6,10 +6,10 @@ use Rattle.std.proofs.lemmas.List.{length-append}
 use Rattle.machine.proofs.Distinct.{all_append}
 use Rattle.ints.specs.Conditions.{cond_argument_count_of}
 use Rattle.ints.specs.declared.conditions.Cond.TheVariants.{Nz}
-use Rattle.rtl_parts.specs.declared.arguments.Arguments.TheVariants.{One, Two}
-use Rattle.rtl_parts.specs.declared.act.Act.{Act}
-use Rattle.rtl_parts.specs.declared.act.Act.TheVariants.{Constant, Move, Operate, Load, Store, Put}
-use Rattle.rtl_parts.specs.Fits.{RegisterFits, TargetFits, ActFits}
+use Rattle.rtl_acts.specs.declared.arguments.Arguments.TheVariants.{One, Two}
+use Rattle.rtl_acts.specs.declared.act.Act.{Act}
+use Rattle.rtl_acts.specs.declared.act.Act.TheVariants.{Constant, Move, Operate, Load, Store, Put}
+use Rattle.rtl_acts.specs.Fits.{RegisterFits, TargetFits, ActFits}
 use Rattle.rtl_language.specs.declared.instruction.Instruction.{Instruction}
 use Rattle.rtl_language.specs.declared.instruction.Instruction.TheVariants.{Do, Call, Branch, Return}
 use Rattle.rtl_language.specs.Function.{InstructionFits}

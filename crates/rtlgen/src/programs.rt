@@ -13,7 +13,7 @@ use crate::functions::translate_named;
 use crate::generated_is_small;
 use cminor_language::Function as CminorFunction;
 use lang_base::{Named, Program, Row};
-use lang_parts::copy_globals;
+use lang_helpers::copy_globals;
 use rtl_language::Function;
 use rtlgen_definition::generated_keeps;
 use std::alloc::Global;

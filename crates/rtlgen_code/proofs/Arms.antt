@@ -4,8 +4,8 @@ use Rattle.std.specs.Prelude.{IfOk}
 use Rattle.ints.specs.declared.operators.Op.{Op}
 use Rattle.ints.specs.declared.conditions.Cond.TheVariants.{Nz}
 use Rattle.lang_base.specs.declared.errors.NoMemory.{NoMemory}
-use Rattle.rtl_parts.specs.declared.arguments.Arguments.TheVariants.{One, Two}
-use Rattle.rtl_parts.specs.declared.act.Act.TheVariants.{Load, Operate}
+use Rattle.rtl_acts.specs.declared.arguments.Arguments.TheVariants.{One, Two}
+use Rattle.rtl_acts.specs.declared.act.Act.TheVariants.{Load, Operate}
 use Rattle.rtl_language.specs.declared.instruction.Instruction.TheVariants.{Do, Branch}
 use Rattle.cminor_syntax.specs.Trees.{ExpressionTree}
 use Rattle.cminor_syntax.specs.Trees as C

@@ -1,7 +1,7 @@
 -- What code adds, put together from what its parts add.
 use Rattle.std.proofs.Common.{◌≡◌, ℕ, ◌+◌, ◌<◌, Bool, true, false, List, [], ◌∷◌, ◌++◌, length, refl, ap, ◌∙◌, append_assoc, length-append, arith}
 use Rattle.ints.specs.declared.conditions.Cond.TheVariants.{Nz}
-use Rattle.rtl_parts.specs.declared.arguments.Arguments.TheVariants.{One}
+use Rattle.rtl_acts.specs.declared.arguments.Arguments.TheVariants.{One}
 use Rattle.rtl_language.specs.declared.instruction.Instruction.{Instruction}
 use Rattle.rtl_language.specs.declared.instruction.Instruction.TheVariants.{Branch}
 use Rattle.rtl_language.specs.Function.{node_limit}

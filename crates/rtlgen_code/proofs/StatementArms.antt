@@ -3,8 +3,8 @@ use Rattle.std.proofs.Common.{◌≡◌, ℕ, suc, ◌+◌, ◌<◌, Bool, true,
 use Rattle.std.specs.Prelude.{IfOk, slice_set}
 use Rattle.ints.specs.declared.conditions.Cond.TheVariants.{Nz}
 use Rattle.lang_base.specs.declared.errors.NoMemory.{NoMemory}
-use Rattle.rtl_parts.specs.declared.arguments.Arguments.TheVariants.{One}
-use Rattle.rtl_parts.specs.declared.act.Act.TheVariants.{Nop, Put, Store}
+use Rattle.rtl_acts.specs.declared.arguments.Arguments.TheVariants.{One}
+use Rattle.rtl_acts.specs.declared.act.Act.TheVariants.{Nop, Put, Store}
 use Rattle.rtl_language.specs.declared.instruction.Instruction.{Instruction}
 use Rattle.rtl_language.specs.declared.instruction.Instruction.TheVariants.{Do, Branch, Return}
 use Rattle.rtl_language.specs.Function.{node_limit}

@@ -5,7 +5,7 @@ use Rattle.cminor_syntax.specs.declared.expression.Expression.{Expression}
 use Rattle.cminor_syntax.specs.declared.statement.Statement.{Statement}
 use Rattle.cminor_syntax.specs.Trees as T
 use Rattle.cminor_syntax.specs.Views.{expression_tree, statement_tree, statements_tree, optional_tree}
-use Rattle.rtl_parts.specs.declared.arguments.Arguments.TheVariants.{One}
+use Rattle.rtl_acts.specs.declared.arguments.Arguments.TheVariants.{One}
 use Rattle.rtl_language.specs.declared.instruction.Instruction.TheVariants.{Branch}
 use Rattle.rtlgen_definition.specs.Gen.{expression, operand, operands, operand_registers, statement, statements}
 use Rattle.rtlgen_definition.specs.Pieces.{Piece, one}

@@ -4,8 +4,8 @@ ghost use Rattle.std.specs.Prelude.{◌≡◌, ℕ, List, [], ◌∷◌, ◌++�
 
 use crate::Graph;
 use lang_base::NoMemory;
+use rtl_acts::Act;
 use rtl_language::Instruction;
-use rtl_parts::Act;
 
 /// A block is entered, behind which this node is. The inmost block is the last.
 pub(crate) fn enter(exits: &mut Vec<u16>, next: u16) -> Result<(), NoMemory>

@@ -11,8 +11,8 @@ use crate::graph::Graph;
 use cminor_syntax::Expression;
 use ints::Cond;
 use lang_base::NoMemory;
+use rtl_acts::{Act, Arguments, Test};
 use rtl_language::Instruction;
-use rtl_parts::{Act, Arguments, Test};
 
 /// The register where an operand's value stands: a variable's own, else the temporary.
 pub fn operand_register(expression: &Expression, temporary: u16) -> u16

@@ -10,8 +10,8 @@ ghost use Rattle.rtlgen_code.specs.Sources.{store_piece, call_piece, put_piece, 
 use crate::{Graph, add_act, add_operand, add_operands, operand_register, operand_registers};
 use cminor_syntax::Expression;
 use lang_base::{NoMemory, Row};
+use rtl_acts::Act;
 use rtl_language::Instruction;
-use rtl_parts::Act;
 use std::alloc::Global;
 
 /// A word that a cell of a global becomes.

@@ -11,8 +11,8 @@ use crate::plain::{add_call, add_put, add_return, add_store};
 use crate::{Graph, add_branch, add_expression, add_operand, operand_register};
 use cminor_syntax::Statement;
 use lang_base::NoMemory;
+use rtl_acts::Act;
 use rtl_language::Instruction;
-use rtl_parts::Act;
 use std::alloc::Global;
 
 /// Where a sequence has few temporaries, so has each of its statements.

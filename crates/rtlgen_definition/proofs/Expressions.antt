@@ -6,12 +6,12 @@ use Rattle.std.specs.List.{AllByRecursion}
 use Rattle.lang_base.specs.declared.program.Named.{Named}
 use Rattle.ints.specs.declared.operators.Op.{Op}
 use Rattle.ints.specs.MachineTable.{machine_table}
-use Rattle.rtl_parts.specs.declared.arguments.Arguments.TheVariants.{One, Two}
-use Rattle.rtl_parts.specs.declared.act.Act.{Act}
-use Rattle.rtl_parts.specs.declared.act.Act.TheVariants.{Constant, Move, Operate, Load}
-use Rattle.rtl_parts.specs.Data.{Data, value_at, put_at}
-use Rattle.machine.specs.Acts as M
-use Rattle.rtl_parts.specs.Acts.{pair_of, given, word_in, does}
+use Rattle.rtl_acts.specs.declared.arguments.Arguments.TheVariants.{One, Two}
+use Rattle.rtl_acts.specs.declared.act.Act.{Act}
+use Rattle.rtl_acts.specs.declared.act.Act.TheVariants.{Constant, Move, Operate, Load}
+use Rattle.rtl_acts.specs.Data.{Data, value_at, put_at}
+use Rattle.cminor_syntax.specs.Acts as M
+use Rattle.rtl_acts.specs.Acts.{pair_of, given, word_in, does}
 use Rattle.rtl_language.specs.declared.instruction.Instruction.TheVariants.{Do}
 use Rattle.rtl_language.specs.Function.{FunctionData}
 use Rattle.cminor_syntax.specs.Trees.{ExpressionTree}

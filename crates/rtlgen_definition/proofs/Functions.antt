@@ -9,7 +9,7 @@ use Rattle.std.proofs.lemmas.Option.{slice_get-map}
 use Rattle.lang_base.specs.declared.shown.Shown.TheVariants.{Running}
 use Rattle.lang_base.specs.Machine.{Goes, Fails}
 use Rattle.lang_base.specs.declared.program.Named.{Named}
-use Rattle.rtl_parts.specs.Data.{Data}
+use Rattle.rtl_acts.specs.Data.{Data}
 use Rattle.rtl_language.specs.declared.instruction.Instruction.TheVariants.{Return}
 use Rattle.rtl_language.specs.Function.{FunctionData}
 use Rattle.rtl_language.specs.Frames.{Frame, State, with_arguments}

@@ -4,7 +4,7 @@ use Rattle.std.specs.Prelude.{slice_get}
 use Rattle.lang_base.specs.declared.shown.Shown.TheVariants.{Running}
 use Rattle.lang_base.specs.Machine.{Goes, shows}
 use Rattle.lang_base.specs.declared.program.Named.{Named}
-use Rattle.rtl_parts.specs.Data.{Data}
+use Rattle.rtl_acts.specs.Data.{Data}
 use Rattle.rtl_language.specs.Function.{FunctionData}
 use Rattle.rtl_language.specs.Frames.{Frame, State, printed, comes_back}
 use Rattle.rtl_language.specs.Meaning.{next}

@@ -5,10 +5,10 @@ use Rattle.lang_base.specs.Machine.{Goes}
 use Rattle.lang_base.specs.declared.program.Named.{Named}
 use Rattle.ints.specs.declared.conditions.Cond.TheVariants.{Nz}
 use Rattle.ints.specs.CondTable.{cond_table}
-use Rattle.rtl_parts.specs.declared.arguments.Arguments.TheVariants.{One}
-use Rattle.rtl_parts.specs.declared.act.Act.{Act}
-use Rattle.rtl_parts.specs.Data.{Data, value_at}
-use Rattle.rtl_parts.specs.Acts.{does, holds}
+use Rattle.rtl_acts.specs.declared.arguments.Arguments.TheVariants.{One}
+use Rattle.rtl_acts.specs.declared.act.Act.{Act}
+use Rattle.rtl_acts.specs.Data.{Data, value_at}
+use Rattle.rtl_acts.specs.Acts.{does, holds}
 use Rattle.rtl_language.specs.declared.instruction.Instruction.TheVariants.{Do, Branch}
 use Rattle.rtl_language.specs.Function.{FunctionData}
 use Rattle.rtl_language.specs.Frames.{State, printed, goes_to}

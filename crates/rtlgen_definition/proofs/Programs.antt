@@ -10,8 +10,8 @@ use Rattle.lang_base.specs.Machine.{showing, shows}
 use Rattle.lang_base.specs.declared.program.Named.{Named}
 use Rattle.lang_base.specs.declared.program.Program.{Program}
 use Rattle.lang_base.proofs.Simulation.{keeps-follows}
-use Rattle.machine.specs.Frames.{main_number, cells_of}
-use Rattle.rtl_parts.specs.Data.{Data}
+use Rattle.cminor_syntax.specs.Frames.{main_number, cells_of}
+use Rattle.rtl_acts.specs.Data.{Data}
 use Rattle.rtl_language.specs.Function.{FunctionData}
 use Rattle.rtl_language.specs.Frames.{State, printed, with_arguments}
 use Rattle.rtl_language.specs.Meaning.{takes_none, next}

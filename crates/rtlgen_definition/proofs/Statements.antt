@@ -4,9 +4,9 @@ use Rattle.std.specs.Prelude.{slice_get, slice_set, slice_index_or, nat_lt, opti
 use Rattle.std.specs.Option.{option_map}
 use Rattle.std.proofs.lemmas.Option.{get_or_from_slice_get}
 use Rattle.lang_base.specs.declared.program.Named.{Named}
-use Rattle.rtl_parts.specs.declared.act.Act.TheVariants.{Nop, Store, Put}
-use Rattle.rtl_parts.specs.Data.{Data, value_at, put_at}
-use Rattle.rtl_parts.specs.Acts.{with_result, changed, stored, printing}
+use Rattle.rtl_acts.specs.declared.act.Act.TheVariants.{Nop, Store, Put}
+use Rattle.rtl_acts.specs.Data.{Data, value_at, put_at}
+use Rattle.rtl_acts.specs.Acts.{with_result, changed, stored, printing}
 use Rattle.rtl_language.specs.declared.instruction.Instruction.TheVariants.{Do, Call, Return}
 use Rattle.rtl_language.specs.Function.{FunctionData}
 use Rattle.rtl_language.specs.Frames.{State, printed, returned, comes_back}

@@ -1,9 +1,9 @@
 -- What the values of Cminor's expressions are made of.
 use Rattle.std.proofs.Common.{◌≡◌, ℕ, ◌==◌, cond, List, [], ◌∷◌, Option, Some, None, refl, ap}
 use Rattle.std.specs.Prelude.{slice_get, option_and_then}
-use Rattle.rtl_parts.specs.Acts.{word_in}
+use Rattle.rtl_acts.specs.Acts.{word_in}
 use Rattle.cminor_syntax.specs.State.{cell}
-use Rattle.machine.specs.Acts.{pair_of}
+use Rattle.cminor_syntax.specs.Acts.{pair_of}
 use Rattle.cminor_syntax.specs.Evaluation.{word_of, defined, chosen, before}
 
 pub same_value : (x y : Option ℕ) → Some x ≡ Some y → x ≡ y

@@ -4,8 +4,8 @@
 use Rattle.std.specs.Prelude.{ℕ, zero, suc, ◌+◌, ◌<◌, List, [], ◌∷◌, length, map, max, Some, None, Bool, true, false, slice_index_or}
 use Rattle.lang_base.specs.declared.program.Named.{Named}
 use Rattle.lang_base.specs.declared.program.Program.{Program}
-use Rattle.rtl_parts.specs.declared.arguments.Arguments.TheVariants.{One, Two}
-use Rattle.rtl_parts.specs.declared.act.Act.TheVariants.{Constant, Move, Operate, Load, Store, Put}
+use Rattle.rtl_acts.specs.declared.arguments.Arguments.TheVariants.{One, Two}
+use Rattle.rtl_acts.specs.declared.act.Act.TheVariants.{Constant, Move, Operate, Load, Store, Put}
 use Rattle.rtl_language.specs.declared.instruction.Instruction.TheVariants.{Do, Call, Return}
 use Rattle.rtl_language.specs.Function.{FunctionData, node_limit}
 use Rattle.cminor_syntax.specs.Trees.{ExpressionTree, StatementTree, StatementsTree, FunctionTree}

@@ -2,8 +2,8 @@
 -- it goes on is known, and so is how many nodes stand already; what it adds has the numbers behind those.
 use Rattle.std.specs.Prelude.{ℕ, suc, ◌+◌, List, [], ◌∷◌, ◌++◌, length}
 use Rattle.ints.specs.declared.conditions.Cond.TheVariants.{Nz}
-use Rattle.rtl_parts.specs.declared.arguments.Arguments.TheVariants.{One}
-use Rattle.rtl_parts.specs.declared.act.Act.TheVariants.{Nop}
+use Rattle.rtl_acts.specs.declared.arguments.Arguments.TheVariants.{One}
+use Rattle.rtl_acts.specs.declared.act.Act.TheVariants.{Nop}
 use Rattle.rtl_language.specs.declared.instruction.Instruction.{Instruction}
 use Rattle.rtl_language.specs.declared.instruction.Instruction.TheVariants.{Do, Branch}
 

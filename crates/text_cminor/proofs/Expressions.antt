@@ -5,13 +5,13 @@ use Rattle.std.proofs.lemmas.List.{append_assoc}
 use Rattle.cminor_syntax.specs.Fits.{ExpressionFits}
 use Rattle.cminor_syntax.specs.Trees.{ExpressionTree}
 use Rattle.cminor_syntax.specs.Trees as T
-use Rattle.text_words.specs.declared.key.Key.{Key}
-use Rattle.text_words.specs.declared.key.Key.TheVariants as key
-use Rattle.text_words.specs.declared.word.Letter.TheVariants as letter
-use Rattle.text_words.specs.declared.word.Word.{Word}
-use Rattle.text_words.specs.declared.word.Word.TheVariants as word
-use Rattle.text_words.specs.Lines.{spaced, spaced_word}
-use Rattle.text_words.specs.Words.{WordFits}
+use Rattle.text_keys.specs.declared.key.Key.{Key}
+use Rattle.text_keys.specs.declared.key.Key.TheVariants as key
+use Rattle.text_keys.specs.declared.word.Letter.TheVariants as letter
+use Rattle.text_keys.specs.declared.word.Word.{Word}
+use Rattle.text_keys.specs.declared.word.Word.TheVariants as word
+use Rattle.text_keys.specs.Lines.{spaced, spaced_word}
+use Rattle.text_keys.specs.Words.{WordFits}
 use Rattle.text_cminor.specs.Shown.{variable_word, shown_key, shown_expression}
 
 -- the words of an expression before others

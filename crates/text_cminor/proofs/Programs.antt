@@ -6,12 +6,12 @@ use Rattle.lang_base.specs.declared.program.Program.{Program}
 use Rattle.lang.specs.Form.{IsProgram}
 use Rattle.cminor_syntax.specs.Fits.{IsFunction}
 use Rattle.cminor_syntax.specs.Trees.{FunctionTree}
-use Rattle.text_words.specs.Words.{WordFits}
-use Rattle.text_words.proofs.Clear.{Outside, Begins, Clear}
-use Rattle.text_words.proofs.Names.{ParameterFits}
-use Rattle.text_words.proofs.Reading.{number_of, others, at}
-use Rattle.text_programs.proofs.Functions.{IsNamed, function_begins, function_clear}
-use Rattle.text_programs.proofs.Programs.{shown_programs_tell}
+use Rattle.text_keys.specs.Words.{WordFits}
+use Rattle.text_keys.proofs.Clear.{Outside, Begins, Clear}
+use Rattle.text_keys.proofs.Names.{ParameterFits}
+use Rattle.text_keys.proofs.Reading.{number_of, others, at}
+use Rattle.text_common.proofs.Functions.{IsNamed, function_begins, function_clear}
+use Rattle.text_common.proofs.Programs.{shown_programs_tell}
 use Rattle.text_cminor.specs.Shown.{variable_word, first_variables, parameters_of, size_words, shown_body, shown_named, shown_cminor}
 use Rattle.text_cminor.proofs.Statements.{Fits, statement_clear}
 

@@ -5,16 +5,16 @@ use Rattle.std.proofs.lemmas.List.{append_assoc, append-nil}
 use Rattle.cminor_syntax.specs.Fits.{StatementFits, StatementsFit, TargetFits}
 use Rattle.cminor_syntax.specs.Trees.{ExpressionTree, StatementTree, StatementsTree}
 use Rattle.cminor_syntax.specs.Trees as T
-use Rattle.text_words.specs.declared.key.Key.{Key}
-use Rattle.text_words.specs.declared.key.Key.TheVariants as key
-use Rattle.text_words.specs.declared.word.Letter.TheVariants as letter
-use Rattle.text_words.specs.declared.word.Word.{Word}
-use Rattle.text_words.specs.declared.word.Word.TheVariants as word
-use Rattle.text_words.specs.Lines.{spaced, spaced_word}
-use Rattle.text_words.specs.Words.{WordFits, target_words}
-use Rattle.text_words.proofs.Clear.{Clear, Outside, many_clear}
-use Rattle.text_words.proofs.Lines.{line_clear, spaced-append, all-append}
-use Rattle.text_words.proofs.Reading.{others, at}
+use Rattle.text_keys.specs.declared.key.Key.{Key}
+use Rattle.text_keys.specs.declared.key.Key.TheVariants as key
+use Rattle.text_keys.specs.declared.word.Letter.TheVariants as letter
+use Rattle.text_keys.specs.declared.word.Word.{Word}
+use Rattle.text_keys.specs.declared.word.Word.TheVariants as word
+use Rattle.text_keys.specs.Lines.{spaced, spaced_word}
+use Rattle.text_keys.specs.Words.{WordFits, target_words}
+use Rattle.text_keys.proofs.Clear.{Clear, Outside, many_clear}
+use Rattle.text_keys.proofs.Lines.{line_clear, spaced-append, all-append}
+use Rattle.text_keys.proofs.Reading.{others, at}
 use Rattle.text_cminor.specs.Shown.{variable_word, shown_key, shown_expression, shown_returned, shown_target, shown_line, shown_statement, shown_statements}
 use Rattle.text_cminor.proofs.Expressions.{words, words_each, text_is, text_each, read_each, each_again, words_fit, each_fit}
 

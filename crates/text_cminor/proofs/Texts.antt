@@ -6,7 +6,7 @@ use Rattle.cminor_syntax.specs.Trees as T
 use Rattle.cminor_syntax.specs.Views.{expression_tree, statement_tree, statements_tree}
 use Rattle.cminor_syntax.specs.declared.expression.Expression.{Expression}
 use Rattle.cminor_syntax.specs.declared.statement.Statement.{Statement}
-use Rattle.text_words.specs.declared.key.Key.TheVariants as key
+use Rattle.text_keys.specs.declared.key.Key.TheVariants as key
 use Rattle.text_cminor.specs.Shown.{shown_expression, shown_value, shown_statement, shown_one, shown_statements, shown_sequence, shown_line, shown_key}
 
 pub expressions_map : (es : List Expression) → flat_map shown_expression (map expression_tree es) ≡ flat_map shown_value es

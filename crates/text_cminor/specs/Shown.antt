@@ -9,15 +9,15 @@ use Rattle.cminor_syntax.specs.Trees as T
 use Rattle.cminor_syntax.specs.Views.{expression_tree, optional_tree, statement_tree}
 use Rattle.cminor_syntax.specs.declared.expression.Expression.{Expression}
 use Rattle.cminor_syntax.specs.declared.statement.Statement.{Statement}
-use Rattle.text_words.specs.declared.key.Key.{Key}
-use Rattle.text_words.specs.declared.key.Key.TheVariants as key
-use Rattle.text_words.specs.declared.word.Letter.TheVariants as letter
-use Rattle.text_words.specs.declared.word.Word.{Word}
-use Rattle.text_words.specs.declared.word.Word.TheVariants as word
-use Rattle.text_words.specs.Lines.{spaced_word, spaced, line_end}
-use Rattle.text_words.specs.Words.{target_words}
-use Rattle.text_programs.specs.Functions.{shown_function}
-use Rattle.text_programs.specs.Programs.{shown_program}
+use Rattle.text_keys.specs.declared.key.Key.{Key}
+use Rattle.text_keys.specs.declared.key.Key.TheVariants as key
+use Rattle.text_keys.specs.declared.word.Letter.TheVariants as letter
+use Rattle.text_keys.specs.declared.word.Word.{Word}
+use Rattle.text_keys.specs.declared.word.Word.TheVariants as word
+use Rattle.text_keys.specs.Lines.{spaced_word, spaced, line_end}
+use Rattle.text_keys.specs.Words.{target_words}
+use Rattle.text_common.specs.Functions.{shown_function}
+use Rattle.text_common.specs.Programs.{shown_program}
 
 abbrev pub variable_word : ℕ → Word
 variable_word v = word.Lettered letter.Variable v

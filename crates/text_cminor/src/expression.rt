@@ -4,13 +4,13 @@ ghost use Rattle.std.specs.Prelude.{map, ◌++◌};
 ghost use Rattle.std.specs.List.{flat_map};
 ghost use Rattle.lang_base.specs.Texts.{Appends};
 ghost use Rattle.cminor_syntax.specs.Views.{expression_tree, optional_tree};
-ghost use Rattle.text_words.specs.declared.key.Key.TheVariants.{Start, Load};
+ghost use Rattle.text_keys.specs.declared.key.Key.TheVariants.{Start, Load};
 ghost use Rattle.text_cminor.specs.Shown.{shown_key, global_spaced, shown_expression, shown_value, shown_returned};
 
 use cminor_syntax::Expression;
 use lang_base::NoMemory;
-use text_words::{Key, Letter, Word, push_key, push_word};
-use lang_parts::{WriteOne, push_each};
+use lang_helpers::{WriteOne, push_each};
+use text_keys::{Key, Letter, Word, push_key, push_word};
 
 /// Opens parentheses, and says what stands in them.
 fn push_opening(out: &mut Vec<u8>, key: Key) -> Result<(), NoMemory>

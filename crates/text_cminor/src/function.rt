@@ -7,8 +7,8 @@ ghost use Rattle.text_cminor.specs.Shown.{variable_word, parameters_of, shown_na
 use crate::statement::push_statement;
 use cminor_language::Function;
 use lang_base::{Named, NoMemory};
-use text_words::{Key, Letter, SpacedWord, Word, end_line, push_count, push_head};
-use lang_parts::WriteOne;
+use lang_helpers::WriteOne;
+use text_keys::{Key, Letter, SpacedWord, Word, end_line, push_count, push_head};
 
 /// The variables that may be parameters.
 const FIRST: [u16; 16] = [0, 1, 2, 3, 4, 5, 6, 7, 8, 9, 10, 11, 12, 13, 14, 15];

@@ -1,6 +1,6 @@
 //! The law of the texts, as the contract of a call that does nothing else.
 
-ghost use Rattle.text_programs.specs.Programs.{AreTold};
+ghost use Rattle.text_common.specs.Programs.{AreTold};
 ghost use Rattle.cminor_syntax.specs.Fits.{IsFunction};
 ghost use Rattle.text_cminor.specs.Shown.{shown_cminor};
 

@@ -6,7 +6,7 @@ ghost use Rattle.text_cminor.specs.Shown.{shown_cminor};
 use crate::function::Shown;
 use cminor_language::Function;
 use lang_base::{NoMemory, Program};
-use text_programs::push_program;
+use text_common::push_program;
 
 /// Writes the text of a program at the end of `out`; where memory runs out, a beginning of it is written.
 pub fn push_cminor(out: &mut Vec<u8>, program: &Program<Function>) -> Result<(), NoMemory>

@@ -9,7 +9,7 @@ ghost use Rattle.text_cminor.specs.Shown.{shown_target, shown_statement, shown_k
 use crate::expression::{push_expression, push_expressions, push_returned};
 use cminor_syntax::{Expression, Statement};
 use lang_base::NoMemory;
-use text_words::{Key, Letter, Word, end_line, push_bytes, push_key, push_word};
+use text_keys::{Key, Letter, Word, end_line, push_bytes, push_key, push_word};
 
 /// The variable that gets a result, if there is one.
 fn push_target(out: &mut Vec<u8>, target: Option<u16>) -> Result<(), NoMemory>

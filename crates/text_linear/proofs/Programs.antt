@@ -6,14 +6,14 @@ use Rattle.lang_base.specs.declared.program.Program.{Program}
 use Rattle.lang.specs.Form.{IsProgram}
 use Rattle.linear_language.specs.Function.{FunctionData, IsFunction, InstructionFits}
 use Rattle.linear_language.specs.declared.instruction.Instruction.{Instruction}
-use Rattle.text_words.specs.Words.{WordFits}
-use Rattle.text_words.proofs.Clear.{Clear, Outside, many_clear, Begins}
-use Rattle.text_words.proofs.Names.{ParameterFits}
-use Rattle.text_words.proofs.Reading.{others, at}
-use Rattle.text_programs.proofs.Functions.{IsNamed, function_begins, function_clear}
-use Rattle.text_programs.proofs.Programs.{shown_programs_tell}
-use Rattle.text_acts.specs.Acts.{location_word}
-use Rattle.text_acts.proofs.Read.{location_tells, parameters_fit}
+use Rattle.text_keys.specs.Words.{WordFits}
+use Rattle.text_keys.proofs.Clear.{Clear, Outside, many_clear, Begins}
+use Rattle.text_keys.proofs.Names.{ParameterFits}
+use Rattle.text_keys.proofs.Reading.{others, at}
+use Rattle.text_common.proofs.Functions.{IsNamed, function_begins, function_clear}
+use Rattle.text_common.proofs.Programs.{shown_programs_tell}
+use Rattle.text_common.specs.Acts.{location_word}
+use Rattle.text_common.proofs.Read.{location_tells, parameters_fit}
 use Rattle.text_linear.specs.Shown.{shown_instruction, shown_code, size_words, shown_named, shown_linear}
 use Rattle.text_linear.proofs.Read.{Fits, instruction_clear}
 

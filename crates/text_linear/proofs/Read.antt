@@ -11,16 +11,16 @@ use Rattle.machine.specs.declared.act.Act.TheVariants as act
 use Rattle.linear_language.specs.Function.{InstructionFits}
 use Rattle.linear_language.specs.declared.instruction.Instruction.{Instruction}
 use Rattle.linear_language.specs.declared.instruction.Instruction.TheVariants.{Do, Copy, Call, Branch, Return, Label, Goto}
-use Rattle.text_words.specs.declared.key.Key.{Key}
-use Rattle.text_words.specs.declared.key.Key.TheVariants as key
-use Rattle.text_words.specs.declared.word.Word.{Word}
-use Rattle.text_words.specs.declared.word.Word.TheVariants.{Named}
-use Rattle.text_words.specs.Words.{WordFits, target_words}
-use Rattle.text_words.proofs.Clear.{Clear}
-use Rattle.text_words.proofs.Lines.{line_clear}
-use Rattle.text_words.proofs.Reading.{number_of, condition_of, condition_again, condition_at, first, others, at, target_of, done, target_number}
-use Rattle.text_acts.specs.Acts.{location_word}
-use Rattle.text_acts.proofs.Read.{location_of, location_again, arguments_of, behind_arguments, value_of, location_fits, locations_fit, place_fits, value_fits, test_fits, act_left_fits, act_right_fits}
+use Rattle.text_keys.specs.declared.key.Key.{Key}
+use Rattle.text_keys.specs.declared.key.Key.TheVariants as key
+use Rattle.text_keys.specs.declared.word.Word.{Word}
+use Rattle.text_keys.specs.declared.word.Word.TheVariants.{Named}
+use Rattle.text_keys.specs.Words.{WordFits, target_words}
+use Rattle.text_keys.proofs.Clear.{Clear}
+use Rattle.text_keys.proofs.Lines.{line_clear}
+use Rattle.text_keys.proofs.Reading.{number_of, condition_of, condition_again, condition_at, first, others, at, target_of, done, target_number}
+use Rattle.text_common.specs.Acts.{location_word}
+use Rattle.text_common.proofs.Read.{location_of, location_again, arguments_of, behind_arguments, value_of, location_fits, locations_fit, place_fits, value_fits, test_fits, act_left_fits, act_right_fits}
 use Rattle.text_linear.specs.Shown.{left, right, behind, call_words, shown_instruction}
 
 -- what is meant by a key, a target and the words behind the key

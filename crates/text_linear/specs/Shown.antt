@@ -8,15 +8,15 @@ use Rattle.linear_language.specs.Function.{FunctionData}
 use Rattle.linear_language.specs.declared.instruction.Instruction.{Instruction}
 use Rattle.linear_language.specs.declared.instruction.Instruction.TheVariants.{Do, Copy, Call, Branch, Return, Label, Goto}
 use Rattle.machine.specs.declared.test.Test.{Test}
-use Rattle.text_words.specs.declared.key.Key.TheVariants as key
-use Rattle.text_words.specs.declared.word.Letter.TheVariants as letter
-use Rattle.text_words.specs.declared.word.Word.{Word}
-use Rattle.text_words.specs.declared.word.Word.TheVariants as word
-use Rattle.text_words.specs.Lines.{spaced, line_end}
-use Rattle.text_words.specs.Words.{target_words}
-use Rattle.text_acts.specs.Acts.{location_word, test_words, value_words, act_left, act_right}
-use Rattle.text_programs.specs.Functions.{shown_function}
-use Rattle.text_programs.specs.Programs.{shown_program}
+use Rattle.text_keys.specs.declared.key.Key.TheVariants as key
+use Rattle.text_keys.specs.declared.word.Letter.TheVariants as letter
+use Rattle.text_keys.specs.declared.word.Word.{Word}
+use Rattle.text_keys.specs.declared.word.Word.TheVariants as word
+use Rattle.text_keys.specs.Lines.{spaced, line_end}
+use Rattle.text_keys.specs.Words.{target_words}
+use Rattle.text_common.specs.Acts.{location_word, test_words, value_words, act_left, act_right}
+use Rattle.text_common.specs.Functions.{shown_function}
+use Rattle.text_common.specs.Programs.{shown_program}
 
 -- where what an instruction gives goes, and "="
 abbrev pub left : Instruction → List Word

@@ -5,10 +5,10 @@ ghost use Rattle.text_linear.specs.Shown.{shown_named, shown_under};
 
 use crate::instruction::Line;
 use lang_base::{Named, NoMemory};
+use lang_helpers::{WriteOne, push_each};
 use linear_language::Function;
-use text_acts::Located;
-use text_words::{Key, end_line, push_count, push_head};
-use lang_parts::{WriteOne, push_each};
+use text_common::Located;
+use text_keys::{Key, end_line, push_count, push_head};
 
 /// Writes the text of a function under a name.
 pub fn push_named(out: &mut Vec<u8>, name: &[u8], function: &Function) -> Result<(), NoMemory>

@@ -1,19 +1,21 @@
 //! Instructions, a line each.
 
 ghost use Rattle.lang_base.specs.Texts.{Appends};
-ghost use Rattle.text_words.specs.Lines.{spaced};
+ghost use Rattle.text_keys.specs.Lines.{spaced};
 ghost use Rattle.text_linear.specs.Shown.{left, right, behind, call_words, branch_words, return_words, shown_instruction};
 
 use lang_base::NoMemory;
+use lang_helpers::WriteOne;
 use linear_language::Instruction;
 use locations::{Location, Register};
 use machine::Test;
-use text_acts::{
+use text_common::{
     Located, push_act_left, push_act_right, push_target, push_test, push_told, push_value,
     word_of_location,
 };
-use text_words::{Key, Letter, Word, end_line, push_bytes, push_count, push_each_word, push_key, push_word};
-use lang_parts::WriteOne;
+use text_keys::{
+    Key, Letter, Word, end_line, push_bytes, push_count, push_each_word, push_key, push_word,
+};
 
 /// Where what an instruction gives goes, before what it does.
 fn push_left(out: &mut Vec<u8>, instruction: &Instruction) -> Result<(), NoMemory>

@@ -6,15 +6,15 @@ use Rattle.locations.specs.declared.location.Location.{Location}
 use Rattle.locations.specs.declared.location.Location.TheVariants.{InRegister, InSlot}
 use Rattle.locations.specs.declared.location.Move.{Move}
 use Rattle.machine.specs.Fits.{MovesFit, MoveFits}
-use Rattle.text_words.specs.declared.key.Key.{Key}
-use Rattle.text_words.specs.declared.key.Key.TheVariants as key
-use Rattle.text_words.specs.declared.word.Word.{Word}
-use Rattle.text_words.specs.declared.word.Word.TheVariants.{Lettered, Named}
-use Rattle.text_words.specs.Words.{WordFits}
-use Rattle.text_words.proofs.Lines.{all-append, spaced-append}
-use Rattle.text_acts.specs.Acts.{location_word}
-use Rattle.text_acts.proofs.Read.{location_of, location_again, location_fits}
-use Rattle.text_words.specs.Lines.{spaced, spaced_word}
+use Rattle.text_keys.specs.declared.key.Key.{Key}
+use Rattle.text_keys.specs.declared.key.Key.TheVariants as key
+use Rattle.text_keys.specs.declared.word.Word.{Word}
+use Rattle.text_keys.specs.declared.word.Word.TheVariants.{Lettered, Named}
+use Rattle.text_keys.specs.Words.{WordFits}
+use Rattle.text_keys.proofs.Lines.{all-append, spaced-append}
+use Rattle.text_common.specs.Acts.{location_word}
+use Rattle.text_common.proofs.Read.{location_of, location_again, location_fits}
+use Rattle.text_keys.specs.Lines.{spaced, spaced_word}
 use Rattle.text_ltl.specs.Shown.{move_words, shown_move, shown_moves}
 
 -- the words of moves in brackets

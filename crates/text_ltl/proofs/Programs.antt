@@ -3,19 +3,19 @@ use Rattle.std.proofs.Common.{◌≡◌, ℕ, ◌≤◌, ◌^◌, List, [], ◌�
 use Rattle.std.specs.List.{AllByRecursion}
 use Rattle.lang_base.specs.declared.program.Named.{Named}
 use Rattle.lang_base.specs.declared.program.Program.{Program}
-use Rattle.lang_parts.specs.Limits.{node_limit}
+use Rattle.lang_helpers.specs.Limits.{node_limit}
 use Rattle.lang.specs.Form.{IsProgram}
 use Rattle.ltl.specs.Function.{FunctionData, IsFunction, BlockFits}
 use Rattle.ltl.specs.declared.block.Block.{Block}
-use Rattle.text_words.specs.Words.{WordFits}
-use Rattle.text_words.proofs.Clear.{Clear, Outside, numbered_clear, Begins}
-use Rattle.text_words.proofs.Names.{ParameterFits}
-use Rattle.text_words.proofs.Reading.{others, at}
-use Rattle.text_programs.proofs.Functions.{IsNamed, function_begins, function_clear}
-use Rattle.text_programs.proofs.Programs.{shown_programs_tell}
-use Rattle.text_acts.specs.Acts.{location_word}
+use Rattle.text_keys.specs.Words.{WordFits}
+use Rattle.text_keys.proofs.Clear.{Clear, Outside, numbered_clear, Begins}
+use Rattle.text_keys.proofs.Names.{ParameterFits}
+use Rattle.text_keys.proofs.Reading.{others, at}
+use Rattle.text_common.proofs.Functions.{IsNamed, function_begins, function_clear}
+use Rattle.text_common.proofs.Programs.{shown_programs_tell}
+use Rattle.text_common.specs.Acts.{location_word}
 use Rattle.text_ltl.specs.Shown.{shown_block, shown_blocks, size_words, shown_named, shown_ltl}
-use Rattle.text_acts.proofs.Read.{location_tells, parameters_fit}
+use Rattle.text_common.proofs.Read.{location_tells, parameters_fit}
 use Rattle.text_ltl.proofs.Read.{Fits, block_clear}
 
 few : (f : FunctionData) → IsFunction f → f.slots ≤ 2 ^ 16

@@ -4,7 +4,7 @@ use Rattle.std.specs.List.{AllByRecursion, flat_map}
 use Rattle.std.specs.Option.{option_map}
 use Rattle.std.proofs.lemmas.List.{append_assoc}
 use Rattle.ints.specs.declared.conditions.Cond.{Cond}
-use Rattle.lang_parts.specs.Limits.{node_limit}
+use Rattle.lang_helpers.specs.Limits.{node_limit}
 use Rattle.locations.specs.declared.location.Location.{Location}
 use Rattle.locations.specs.declared.location.Location.TheVariants.{InRegister, InSlot}
 use Rattle.locations.specs.declared.location.Move.{Move}
@@ -16,17 +16,17 @@ use Rattle.ltl.specs.Function.{BlockFits, BodyFits, MaybeActFits, after_of as la
 use Rattle.ltl.specs.declared.block.Block.{Block}
 use Rattle.ltl.specs.declared.block.Body.{Body}
 use Rattle.ltl.specs.declared.block.Body.TheVariants.{Go, Call, Branch, Return}
-use Rattle.text_words.specs.declared.key.Key.{Key}
-use Rattle.text_words.specs.declared.key.Key.TheVariants as key
-use Rattle.text_words.specs.declared.word.Word.{Word}
-use Rattle.text_words.specs.declared.word.Word.TheVariants.{Lettered, Number, Named}
-use Rattle.text_words.specs.Lines.{spaced, line_end}
-use Rattle.text_words.specs.Words.{WordFits, target_words}
-use Rattle.text_words.proofs.Clear.{Clear}
-use Rattle.text_words.proofs.Lines.{line_clear, all-append, spaced-append}
-use Rattle.text_words.proofs.Reading.{number_of, condition_of, condition_again, condition_at, first, others, at, target_of, done, target_number}
-use Rattle.text_acts.specs.Acts.{location_word}
-use Rattle.text_acts.proofs.Read.{location_of, arguments_of, locations_fit, place_fits, value_fits, test_fits, act_left_fits, act_right_fits}
+use Rattle.text_keys.specs.declared.key.Key.{Key}
+use Rattle.text_keys.specs.declared.key.Key.TheVariants as key
+use Rattle.text_keys.specs.declared.word.Word.{Word}
+use Rattle.text_keys.specs.declared.word.Word.TheVariants.{Lettered, Number, Named}
+use Rattle.text_keys.specs.Lines.{spaced, line_end}
+use Rattle.text_keys.specs.Words.{WordFits, target_words}
+use Rattle.text_keys.proofs.Clear.{Clear}
+use Rattle.text_keys.proofs.Lines.{line_clear, all-append, spaced-append}
+use Rattle.text_keys.proofs.Reading.{number_of, condition_of, condition_again, condition_at, first, others, at, target_of, done, target_number}
+use Rattle.text_common.specs.Acts.{location_word}
+use Rattle.text_common.proofs.Read.{location_of, arguments_of, locations_fit, place_fits, value_fits, test_fits, act_left_fits, act_right_fits}
 use Rattle.text_ltl.specs.Shown.{move_words, maybe_left, maybe_right, body_left, body_right, call_words, behind, shown_moves, shown_body, shown_block}
 use Rattle.text_ltl.proofs.Moved.{moves_words, moves_text, moves_of, behind_moves, Plain, moves_again, behind_moves_again, moves_fit}
 

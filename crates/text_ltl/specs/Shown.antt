@@ -10,16 +10,16 @@ use Rattle.ltl.specs.Function.{FunctionData, after_of}
 use Rattle.ltl.specs.declared.block.Block.{Block}
 use Rattle.ltl.specs.declared.block.Body.{Body}
 use Rattle.ltl.specs.declared.block.Body.TheVariants.{Go, Call, Branch, Return}
-use Rattle.text_words.specs.declared.key.Key.TheVariants as key
-use Rattle.text_words.specs.declared.word.Letter.TheVariants as letter
-use Rattle.text_words.specs.declared.word.Word.{Word}
-use Rattle.text_words.specs.declared.word.Word.TheVariants as word
-use Rattle.text_words.specs.Lines.{spaced, spaced_word, line_end}
-use Rattle.text_words.specs.Numbered.{numbered_text}
-use Rattle.text_words.specs.Words.{target_words}
-use Rattle.text_acts.specs.Acts.{location_word, test_words, value_words, act_left, act_right}
-use Rattle.text_programs.specs.Functions.{shown_function}
-use Rattle.text_programs.specs.Programs.{shown_program}
+use Rattle.text_keys.specs.declared.key.Key.TheVariants as key
+use Rattle.text_keys.specs.declared.word.Letter.TheVariants as letter
+use Rattle.text_keys.specs.declared.word.Word.{Word}
+use Rattle.text_keys.specs.declared.word.Word.TheVariants as word
+use Rattle.text_keys.specs.Lines.{spaced, spaced_word, line_end}
+use Rattle.text_keys.specs.Numbered.{numbered_text}
+use Rattle.text_keys.specs.Words.{target_words}
+use Rattle.text_common.specs.Acts.{location_word, test_words, value_words, act_left, act_right}
+use Rattle.text_common.specs.Functions.{shown_function}
+use Rattle.text_common.specs.Programs.{shown_program}
 
 -- `r1 = s3`
 abbrev pub move_words : Move → List Word

@@ -6,7 +6,7 @@ use crate::body::push_body;
 use crate::moves::push_moves;
 use lang_base::NoMemory;
 use ltl::Block;
-use text_words::{WriteNumbered, push_bytes, push_number};
+use text_keys::{WriteNumbered, push_bytes, push_number};
 
 /// The line of a block.
 pub(crate) struct Line;

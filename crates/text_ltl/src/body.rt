@@ -2,16 +2,16 @@
 
 ghost use Rattle.lang_base.specs.Texts.{Appends};
 ghost use Rattle.ltl.specs.Function.{after_of};
-ghost use Rattle.text_words.specs.Lines.{spaced};
+ghost use Rattle.text_keys.specs.Lines.{spaced};
 ghost use Rattle.text_ltl.specs.Shown.{body_left, body_right, behind, call_words, maybe_left, maybe_right, shown_moves, shown_body};
 
 use crate::moves::push_moves;
 use lang_base::NoMemory;
+use locations::Location;
 use ltl::Body;
 use machine::Act;
-use locations::Location;
-use text_acts::{Located, push_act_left, push_act_right, push_target, push_test, push_value};
-use text_words::{Key, Letter, Word, end_line, push_count, push_each_word, push_key, push_word};
+use text_common::{Located, push_act_left, push_act_right, push_target, push_test, push_value};
+use text_keys::{Key, Letter, Word, end_line, push_count, push_each_word, push_key, push_word};
 
 fn push_maybe_left(out: &mut Vec<u8>, act: &Option<Act>) -> Result<(), NoMemory>
     ensures { Appends result (spaced (maybe_left act.now)) out.old.items out.new.items }

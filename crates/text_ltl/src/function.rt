@@ -1,15 +1,15 @@
 //! Functions: a first line, and a line for each block.
 
 ghost use Rattle.lang_base.specs.Texts.{Appends};
-ghost use Rattle.text_words.specs.Lines.{spaced};
+ghost use Rattle.text_keys.specs.Lines.{spaced};
 ghost use Rattle.text_ltl.specs.Shown.{size_words, shown_named, shown_under};
 
 use crate::block::Line;
 use lang_base::{Named, NoMemory};
+use lang_helpers::WriteOne;
 use ltl::Function;
-use text_acts::Located;
-use text_words::{Key, end_line, push_count, push_head, push_numbered};
-use lang_parts::WriteOne;
+use text_common::Located;
+use text_keys::{Key, end_line, push_count, push_head, push_numbered};
 
 /// How many slots a function has, and where it begins.
 fn push_size(out: &mut Vec<u8>, function: &Function) -> Result<(), NoMemory>

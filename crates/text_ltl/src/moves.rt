@@ -4,10 +4,10 @@ ghost use Rattle.lang_base.specs.Texts.{Appends};
 ghost use Rattle.text_ltl.specs.Shown.{shown_move, shown_between, shown_moves};
 
 use lang_base::NoMemory;
+use lang_helpers::{WriteOne, push_each};
 use locations::Move;
-use text_acts::word_of_location;
-use text_words::{Key, push_key, push_word};
-use lang_parts::{WriteOne, push_each};
+use text_common::word_of_location;
+use text_keys::{Key, push_key, push_word};
 
 /// The words of a move.
 struct Step;

@@ -2,9 +2,9 @@
 use Rattle.std.proofs.Common.{◌≡◌, ℕ, ◌<◌, ◌≤◌, ◌^◌, List, [], ◌∷◌, refl, ap, arith}
 use Rattle.std.specs.List.{AllByRecursion}
 use Rattle.locations.specs.declared.location.Location.TheVariants.{InRegister, InSlot}
-use Rattle.rtl_parts.specs.declared.arguments.Arguments.{Arguments}
-use Rattle.rtl_parts.specs.declared.arguments.Arguments.TheVariants.{One, Two}
-use Rattle.rtl_parts.specs.Fits.{ArgumentsFit}
+use Rattle.rtl_acts.specs.declared.arguments.Arguments.{Arguments}
+use Rattle.rtl_acts.specs.declared.arguments.Arguments.TheVariants.{One, Two}
+use Rattle.rtl_acts.specs.Fits.{ArgumentsFit}
 use Rattle.constprop_check_rules.specs.declared.fact.Fact.{Fact}
 use Rattle.constprop_check_rules.specs.Rules.{FactFits}
 use Rattle.cse_check_rules.specs.declared.equation.Equation as cse
@@ -13,13 +13,13 @@ use Rattle.cse_check_rules.specs.declared.equation.RightSide.TheVariants.{Operat
 use Rattle.cse_check_rules.specs.Rules as elimination
 use Rattle.alloc_check_rules.specs.declared.equation.Equation as alloc
 use Rattle.alloc_check_rules.specs.Rules as allocation
-use Rattle.text_words.specs.declared.key.Key.{Key}
-use Rattle.text_words.specs.declared.key.Key.TheVariants as key
-use Rattle.text_words.specs.declared.word.Word.{Word}
-use Rattle.text_words.specs.declared.word.Word.TheVariants.{Lettered, Number, Named}
-use Rattle.text_words.specs.Words.{WordFits}
-use Rattle.text_words.proofs.Reading.{first, others, at}
-use Rattle.text_acts.proofs.Read.{location_of, location_again, location_fits}
+use Rattle.text_keys.specs.declared.key.Key.{Key}
+use Rattle.text_keys.specs.declared.key.Key.TheVariants as key
+use Rattle.text_keys.specs.declared.word.Word.{Word}
+use Rattle.text_keys.specs.declared.word.Word.TheVariants.{Lettered, Number, Named}
+use Rattle.text_keys.specs.Words.{WordFits}
+use Rattle.text_keys.proofs.Reading.{first, others, at}
+use Rattle.text_common.proofs.Read.{location_of, location_again, location_fits}
 use Rattle.text_rtl.specs.Acts.{argument_words}
 use Rattle.text_rtl.proofs.Parts.{arguments_of}
 use Rattle.text_offers.specs.Entries.{fact_words, right_words, equation_words, place_words}

@@ -4,14 +4,14 @@ use Rattle.std.specs.List.{AllByRecursion, flat_map}
 use Rattle.std.proofs.lemmas.List.{append_assoc, append_cancel_left, append-nil}
 use Rattle.rtl_passes_marks.specs.declared.row.NodeRow.{NodeRow}
 use Rattle.rtl_passes_marks.specs.RowForm.{RowFits}
-use Rattle.text_words.specs.declared.word.Word.{Word}
-use Rattle.text_words.specs.declared.word.Word.TheVariants as word
-use Rattle.text_words.specs.Words.{WordFits}
-use Rattle.text_words.specs.Lines.{spaced, line_end}
-use Rattle.text_words.proofs.Clear.{Clear, Outside, many_clear}
-use Rattle.text_words.proofs.Lines.{line_clear, words_tell}
-use Rattle.text_words.proofs.Reading.{number_of, at}
-use Rattle.text_programs.specs.Programs.{number_word}
+use Rattle.text_keys.specs.declared.word.Word.{Word}
+use Rattle.text_keys.specs.declared.word.Word.TheVariants as word
+use Rattle.text_keys.specs.Words.{WordFits}
+use Rattle.text_keys.specs.Lines.{spaced, line_end}
+use Rattle.text_keys.proofs.Clear.{Clear, Outside, many_clear}
+use Rattle.text_keys.proofs.Lines.{line_clear, words_tell}
+use Rattle.text_keys.proofs.Reading.{number_of, at}
+use Rattle.text_common.specs.Programs.{number_word}
 use Rattle.text_offers.specs.Lines.{entry_line, row_lines, rows_lines, order_line}
 
 -- nothing stands behind

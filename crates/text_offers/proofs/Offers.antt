@@ -11,8 +11,8 @@ use Rattle.offers.specs.Text.{PartsFit}
 use Rattle.constprop_check_rules.specs.Rules.{FactFits}
 use Rattle.cse_check_rules.specs.Rules as elimination
 use Rattle.alloc_check_rules.specs.Rules as allocation
-use Rattle.text_words.proofs.Clear.{Clear, Outside, Begins}
-use Rattle.text_programs.proofs.Functions.{IsNamed}
+use Rattle.text_keys.proofs.Clear.{Clear, Outside, Begins}
+use Rattle.text_common.proofs.Functions.{IsNamed}
 use Rattle.text_rtl.specs.Shown as rtl_text
 use Rattle.text_rtl.proofs.Programs as rtl_told
 use Rattle.text_ltl.specs.Shown as ltl_text

@@ -5,11 +5,11 @@ use Rattle.cse_check_rules.specs.declared.equation.Equation as cse
 use Rattle.cse_check_rules.specs.declared.equation.RightSide.{RightSide}
 use Rattle.cse_check_rules.specs.declared.equation.RightSide.TheVariants.{Operation, Cell, Copy}
 use Rattle.alloc_check_rules.specs.declared.equation.Equation as alloc
-use Rattle.text_words.specs.declared.key.Key.TheVariants as key
-use Rattle.text_words.specs.declared.word.Word.{Word}
-use Rattle.text_words.specs.declared.word.Word.TheVariants.{Number, Named}
+use Rattle.text_keys.specs.declared.key.Key.TheVariants as key
+use Rattle.text_keys.specs.declared.word.Word.{Word}
+use Rattle.text_keys.specs.declared.word.Word.TheVariants.{Number, Named}
 use Rattle.text_rtl.specs.Acts.{register_word, operate_words, load_words}
-use Rattle.text_acts.specs.Acts.{location_word}
+use Rattle.text_common.specs.Acts.{location_word}
 
 -- `constant 5`
 abbrev pub constant_words : ℕ → List Word

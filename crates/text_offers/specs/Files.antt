@@ -14,7 +14,7 @@ use Rattle.constprop_check_rules.specs.Rules.{propagation}
 use Rattle.constprop_check.specs.FactForm.{fact_text}
 use Rattle.cse_check_rules.specs.Rules.{elimination}
 use Rattle.cse_check_rules.specs.Order.{equation_text}
-use Rattle.alloc_check_laws.specs.Text as places
+use Rattle.alloc_check.specs.Text as places
 use Rattle.linearize_check.specs.OrderForm as order
 use Rattle.offers.specs.declared.parts.Parts.{Parts}
 use Rattle.offers.specs.Text.{spelling_of, PartsFit}

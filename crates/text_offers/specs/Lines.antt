@@ -2,10 +2,10 @@
 use Rattle.std.specs.Prelude.{ℕ, List, [], ◌∷◌, ◌++◌, codes, map}
 use Rattle.std.specs.List.{flat_map}
 use Rattle.rtl_passes_marks.specs.declared.row.NodeRow.{NodeRow}
-use Rattle.text_words.specs.declared.word.Word.{Word}
-use Rattle.text_words.specs.declared.word.Word.TheVariants as word
-use Rattle.text_words.specs.Lines.{spaced, line_end}
-use Rattle.text_programs.specs.Programs.{number_word}
+use Rattle.text_keys.specs.declared.word.Word.{Word}
+use Rattle.text_keys.specs.declared.word.Word.TheVariants as word
+use Rattle.text_keys.specs.Lines.{spaced, line_end}
+use Rattle.text_common.specs.Programs.{number_word}
 
 -- the words of an entry, behind one more blank
 abbrev pub entry_line : {A : Type 0} → (A → List Word) → A → List ℕ

@@ -1,16 +1,16 @@
 //! What certificates say at a node: facts, equations of RTL, and where registers of RTL lie.
 
 ghost use Rattle.lang_base.specs.Texts.{Appends};
-ghost use Rattle.text_words.specs.Lines.{spaced};
+ghost use Rattle.text_keys.specs.Lines.{spaced};
 ghost use Rattle.text_offers.specs.Entries.{constant_words, fact_words, right_words, equation_words, place_words};
 
 use crate::writing::EntryWords;
 use constprop_check_rules::Fact;
 use cse_check_rules::RightSide;
 use lang_base::NoMemory;
-use text_acts::word_of_location;
+use text_common::word_of_location;
+use text_keys::{Key, Word, push_key, push_word};
 use text_rtl::{push_load, push_operate, word_of_register};
-use text_words::{Key, Word, push_key, push_word};
 
 /// A constant, as what gives it.
 fn push_constant(out: &mut Vec<u8>, word: u32) -> Result<(), NoMemory>

@@ -11,7 +11,7 @@ use cse_check::Cse;
 use lang_base::NoMemory;
 use linearize_check::Linearize;
 use offers::PartsOf;
-use text_words::push_bytes;
+use text_keys::push_bytes;
 
 pub(crate) fn push_constants(out: &mut Vec<u8>, parts: &PartsOf<ConstProp>) -> Result<(), NoMemory>
     ensures { Appends result (shown_constants parts.now) out.old.items out.new.items }

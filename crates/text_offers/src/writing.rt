@@ -3,15 +3,15 @@
 ghost use Rattle.std.specs.Prelude.{ℕ, List};
 ghost use Rattle.std.specs.List.{flat_map};
 ghost use Rattle.lang_base.specs.Texts.{Appends};
-ghost use Rattle.text_words.specs.declared.word.Word.{Word};
-ghost use Rattle.text_words.specs.Lines.{spaced};
+ghost use Rattle.text_keys.specs.declared.word.Word.{Word};
+ghost use Rattle.text_keys.specs.Lines.{spaced};
 ghost use Rattle.text_offers.specs.Lines.{entry_line, row_lines, rows_lines, order_line};
 
 use lang_base::NoMemory;
+use lang_helpers::{WriteOne, push_each};
 use rtl_passes_marks::NodeRow;
 use std::marker::PhantomData;
-use text_words::{SpacedWord, Word as OneWord, end_line, push_bytes, push_each_word, push_word};
-use lang_parts::{WriteOne, push_each};
+use text_keys::{SpacedWord, Word as OneWord, end_line, push_bytes, push_each_word, push_word};
 
 /// What a certificate says at a node has words.
 pub(crate) trait EntryWords {
@@ -82,7 +82,7 @@ pub(crate) fn push_rows<E: EntryWords>(
 struct Node;
 
 impl SpacedWord for Node {
-    ghost use Rattle.text_programs.specs.Programs.{number_word};
+    ghost use Rattle.text_common.specs.Programs.{number_word};
 
     type Item = u16;
 

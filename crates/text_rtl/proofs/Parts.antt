@@ -1,16 +1,16 @@
 -- What registers, arguments, tests and plain instructions are read back from, and that their words are in range.
 use Rattle.std.proofs.Common.{ℕ, ◌≤◌, ◌^◌, List, [], ◌∷◌, map, Option, Some, None, arith}
 use Rattle.std.specs.List.{AllByRecursion}
-use Rattle.rtl_parts.specs.declared.arguments.Arguments.{Arguments}
-use Rattle.rtl_parts.specs.declared.arguments.Arguments.TheVariants.{One, Two}
-use Rattle.rtl_parts.specs.declared.act.Act.{Act}
-use Rattle.rtl_parts.specs.declared.act.Act.TheVariants as act
-use Rattle.rtl_parts.specs.declared.test.Test.{Test}
-use Rattle.rtl_parts.specs.Fits.{ActFits, TestFits, ArgumentsFit, TargetFits, RegisterFits}
-use Rattle.text_words.specs.declared.word.Word.{Word}
-use Rattle.text_words.specs.declared.word.Word.TheVariants.{Lettered}
-use Rattle.text_words.specs.Words.{WordFits, target_words}
-use Rattle.text_words.proofs.Names.{ParameterFits}
+use Rattle.rtl_acts.specs.declared.arguments.Arguments.{Arguments}
+use Rattle.rtl_acts.specs.declared.arguments.Arguments.TheVariants.{One, Two}
+use Rattle.rtl_acts.specs.declared.act.Act.{Act}
+use Rattle.rtl_acts.specs.declared.act.Act.TheVariants as act
+use Rattle.rtl_acts.specs.declared.test.Test.{Test}
+use Rattle.rtl_acts.specs.Fits.{ActFits, TestFits, ArgumentsFit, TargetFits, RegisterFits}
+use Rattle.text_keys.specs.declared.word.Word.{Word}
+use Rattle.text_keys.specs.declared.word.Word.TheVariants.{Lettered}
+use Rattle.text_keys.specs.Words.{WordFits, target_words}
+use Rattle.text_keys.proofs.Names.{ParameterFits}
 use Rattle.text_rtl.specs.Acts.{register_word, argument_words, test_words, value_words, act_target, act_right}
 
 -- registers, as many as stand there

@@ -3,16 +3,16 @@ use Rattle.std.proofs.Common.{◌≡◌, ℕ, ◌≤◌, ◌^◌, List, [], ◌�
 use Rattle.std.specs.List.{AllByRecursion}
 use Rattle.lang_base.specs.declared.program.Named.{Named}
 use Rattle.lang_base.specs.declared.program.Program.{Program}
-use Rattle.lang_parts.specs.Limits.{node_limit}
+use Rattle.lang_helpers.specs.Limits.{node_limit}
 use Rattle.lang.specs.Form.{IsProgram}
 use Rattle.rtl_language.specs.Function.{FunctionData, IsFunction, InstructionFits}
 use Rattle.rtl_language.specs.declared.instruction.Instruction.{Instruction}
-use Rattle.text_words.specs.Words.{WordFits}
-use Rattle.text_words.proofs.Clear.{Clear, Outside, numbered_clear, Begins}
-use Rattle.text_words.proofs.Names.{ParameterFits}
-use Rattle.text_words.proofs.Reading.{number_of, others, at}
-use Rattle.text_programs.proofs.Functions.{IsNamed, function_begins, function_clear}
-use Rattle.text_programs.proofs.Programs.{shown_programs_tell}
+use Rattle.text_keys.specs.Words.{WordFits}
+use Rattle.text_keys.proofs.Clear.{Clear, Outside, numbered_clear, Begins}
+use Rattle.text_keys.proofs.Names.{ParameterFits}
+use Rattle.text_keys.proofs.Reading.{number_of, others, at}
+use Rattle.text_common.proofs.Functions.{IsNamed, function_begins, function_clear}
+use Rattle.text_common.proofs.Programs.{shown_programs_tell}
 use Rattle.text_rtl.specs.Acts.{register_word}
 use Rattle.text_rtl.specs.Shown.{shown_node, shown_nodes, size_words, shown_named, shown_rtl}
 use Rattle.text_rtl.proofs.Parts.{parameters_fit}

@@ -3,21 +3,21 @@ use Rattle.std.proofs.Common.{◌≡◌, ℕ, ◌<◌, ◌≤◌, ◌^◌, List,
 use Rattle.std.specs.List.{AllByRecursion}
 use Rattle.std.specs.Option.{option_map}
 use Rattle.ints.specs.declared.conditions.Cond.{Cond}
-use Rattle.lang_parts.specs.Limits.{node_limit}
-use Rattle.rtl_parts.specs.declared.arguments.Arguments.{Arguments}
-use Rattle.rtl_parts.specs.declared.arguments.Arguments.TheVariants.{One, Two}
-use Rattle.rtl_parts.specs.declared.act.Act.TheVariants as act
+use Rattle.lang_helpers.specs.Limits.{node_limit}
+use Rattle.rtl_acts.specs.declared.arguments.Arguments.{Arguments}
+use Rattle.rtl_acts.specs.declared.arguments.Arguments.TheVariants.{One, Two}
+use Rattle.rtl_acts.specs.declared.act.Act.TheVariants as act
 use Rattle.rtl_language.specs.Function.{InstructionFits}
 use Rattle.rtl_language.specs.declared.instruction.Instruction.{Instruction}
 use Rattle.rtl_language.specs.declared.instruction.Instruction.TheVariants.{Do, Call, Branch, Return}
-use Rattle.text_words.specs.declared.key.Key.{Key}
-use Rattle.text_words.specs.declared.key.Key.TheVariants as key
-use Rattle.text_words.specs.declared.word.Word.{Word}
-use Rattle.text_words.specs.declared.word.Word.TheVariants.{Lettered, Number, Named}
-use Rattle.text_words.specs.Words.{WordFits, target_words}
-use Rattle.text_words.proofs.Clear.{Clear}
-use Rattle.text_words.proofs.Lines.{line_clear}
-use Rattle.text_words.proofs.Reading.{number_of, condition_of, condition_again, condition_at, first, others, at, target_of, done, target_number}
+use Rattle.text_keys.specs.declared.key.Key.{Key}
+use Rattle.text_keys.specs.declared.key.Key.TheVariants as key
+use Rattle.text_keys.specs.declared.word.Word.{Word}
+use Rattle.text_keys.specs.declared.word.Word.TheVariants.{Lettered, Number, Named}
+use Rattle.text_keys.specs.Words.{WordFits, target_words}
+use Rattle.text_keys.proofs.Clear.{Clear}
+use Rattle.text_keys.proofs.Lines.{line_clear}
+use Rattle.text_keys.proofs.Reading.{number_of, condition_of, condition_again, condition_at, first, others, at, target_of, done, target_number}
 use Rattle.text_rtl.specs.Acts.{register_word}
 use Rattle.text_rtl.specs.Shown.{left, right, behind, call_words, shown_node}
 use Rattle.text_rtl.proofs.Parts.{arguments_of, registers_in, behind_registers, registers_fit, target_fits, value_fits, test_fits, act_left_fits, act_right_fits}

@@ -1,16 +1,16 @@
 -- The words of registers, plain instructions and tests.
 use Rattle.std.specs.Prelude.{ℕ, List, [], ◌∷◌, Option, Some, None}
 use Rattle.ints.specs.declared.operators.Op.{Op}
-use Rattle.rtl_parts.specs.declared.arguments.Arguments.{Arguments}
-use Rattle.rtl_parts.specs.declared.arguments.Arguments.TheVariants.{One, Two}
-use Rattle.rtl_parts.specs.declared.act.Act.{Act}
-use Rattle.rtl_parts.specs.declared.act.Act.TheVariants as act
-use Rattle.rtl_parts.specs.declared.test.Test.{Test}
-use Rattle.text_words.specs.declared.key.Key.TheVariants as key
-use Rattle.text_words.specs.declared.word.Letter.TheVariants as letter
-use Rattle.text_words.specs.declared.word.Word.{Word}
-use Rattle.text_words.specs.declared.word.Word.TheVariants.{Lettered, Number, Named}
-use Rattle.text_words.specs.Keys.{condition_key}
+use Rattle.rtl_acts.specs.declared.arguments.Arguments.{Arguments}
+use Rattle.rtl_acts.specs.declared.arguments.Arguments.TheVariants.{One, Two}
+use Rattle.rtl_acts.specs.declared.act.Act.{Act}
+use Rattle.rtl_acts.specs.declared.act.Act.TheVariants as act
+use Rattle.rtl_acts.specs.declared.test.Test.{Test}
+use Rattle.text_keys.specs.declared.key.Key.TheVariants as key
+use Rattle.text_keys.specs.declared.word.Letter.TheVariants as letter
+use Rattle.text_keys.specs.declared.word.Word.{Word}
+use Rattle.text_keys.specs.declared.word.Word.TheVariants.{Lettered, Number, Named}
+use Rattle.text_keys.specs.Keys.{condition_key}
 
 -- r7
 abbrev pub register_word : ℕ → Word

@@ -5,15 +5,15 @@ use Rattle.lang_base.specs.declared.program.Program.{Program}
 use Rattle.rtl_language.specs.Function.{FunctionData}
 use Rattle.rtl_language.specs.declared.instruction.Instruction.{Instruction}
 use Rattle.rtl_language.specs.declared.instruction.Instruction.TheVariants.{Do, Call, Branch, Return}
-use Rattle.text_words.specs.declared.key.Key.TheVariants as key
-use Rattle.text_words.specs.declared.word.Letter.TheVariants as letter
-use Rattle.text_words.specs.declared.word.Word.{Word}
-use Rattle.text_words.specs.declared.word.Word.TheVariants as word
-use Rattle.text_words.specs.Lines.{spaced, line_end}
-use Rattle.text_words.specs.Numbered.{numbered_text}
-use Rattle.text_words.specs.Words.{target_words}
-use Rattle.text_programs.specs.Functions.{shown_function}
-use Rattle.text_programs.specs.Programs.{shown_program}
+use Rattle.text_keys.specs.declared.key.Key.TheVariants as key
+use Rattle.text_keys.specs.declared.word.Letter.TheVariants as letter
+use Rattle.text_keys.specs.declared.word.Word.{Word}
+use Rattle.text_keys.specs.declared.word.Word.TheVariants as word
+use Rattle.text_keys.specs.Lines.{spaced, line_end}
+use Rattle.text_keys.specs.Numbered.{numbered_text}
+use Rattle.text_keys.specs.Words.{target_words}
+use Rattle.text_common.specs.Functions.{shown_function}
+use Rattle.text_common.specs.Programs.{shown_program}
 use Rattle.text_rtl.specs.Acts.{register_word, test_words, value_words, act_target, act_right}
 
 -- where what a node gives goes, and "="

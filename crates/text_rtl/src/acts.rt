@@ -2,15 +2,15 @@
 
 ghost use Rattle.std.specs.Prelude.{◌≡◌, ◌∷◌, []};
 ghost use Rattle.lang_base.specs.Texts.{Appends};
-ghost use Rattle.text_words.specs.declared.word.Word.TheVariants.{Named};
-ghost use Rattle.text_words.specs.Lines.{spaced};
-ghost use Rattle.text_words.specs.Words.{target_words};
+ghost use Rattle.text_keys.specs.declared.word.Word.TheVariants.{Named};
+ghost use Rattle.text_keys.specs.Lines.{spaced};
+ghost use Rattle.text_keys.specs.Words.{target_words};
 ghost use Rattle.text_rtl.specs.Acts.{register_word, global_word, argument_words, test_words, value_words, operate_words, load_words, store_words, act_target, act_right};
 
 use ints::Op;
 use lang_base::NoMemory;
-use rtl_parts::{Act, Arguments, Register, Test};
-use text_words::{Key, Letter, SpacedWord, Word, condition_key, push_key, push_word};
+use rtl_acts::{Act, Arguments, Register, Test};
+use text_keys::{Key, Letter, SpacedWord, Word, condition_key, push_key, push_word};
 
 /// The word of a register.
 pub fn word_of_register(register: Register) -> Word

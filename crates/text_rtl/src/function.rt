@@ -1,15 +1,15 @@
 //! Functions: a first line, and a line for each node.
 
 ghost use Rattle.lang_base.specs.Texts.{Appends};
-ghost use Rattle.text_words.specs.Lines.{spaced};
+ghost use Rattle.text_keys.specs.Lines.{spaced};
 ghost use Rattle.text_rtl.specs.Shown.{size_words, shown_named, shown_under};
 
 use crate::acts::InRegister;
 use crate::node::Line;
 use lang_base::{Named, NoMemory};
+use lang_helpers::WriteOne;
 use rtl_language::Function;
-use text_words::{Key, end_line, push_count, push_head, push_numbered};
-use lang_parts::WriteOne;
+use text_keys::{Key, end_line, push_count, push_head, push_numbered};
 
 /// How many registers a function has, and where it begins.
 fn push_size(out: &mut Vec<u8>, function: &Function) -> Result<(), NoMemory>

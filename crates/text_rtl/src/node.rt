@@ -2,14 +2,14 @@
 
 ghost use Rattle.std.specs.Prelude.{◌++◌, codes, decimal};
 ghost use Rattle.lang_base.specs.Texts.{Appends};
-ghost use Rattle.text_words.specs.Lines.{spaced};
+ghost use Rattle.text_keys.specs.Lines.{spaced};
 ghost use Rattle.text_rtl.specs.Shown.{left, right, behind, call_words, shown_node};
 
 use crate::acts::{InRegister, push_act_right, push_target, push_test, push_value, target_of};
 use lang_base::NoMemory;
+use rtl_acts::Register;
 use rtl_language::Instruction;
-use rtl_parts::Register;
-use text_words::{
+use text_keys::{
     Key, Letter, Word, WriteNumbered, end_line, push_bytes, push_count, push_each_word, push_key,
     push_number, push_word,
 };

@@ -6,7 +6,7 @@ ghost use Rattle.text_rtl.specs.Shown.{shown_rtl};
 use crate::function::Shown;
 use lang_base::{NoMemory, Program};
 use rtl_language::Function;
-use text_programs::push_program;
+use text_common::push_program;
 
 /// Writes the text of a program at the end of `out`; where memory runs out, a beginning of it is written.
 pub fn push_rtl(out: &mut Vec<u8>, program: &Program<Function>) -> Result<(), NoMemory>

@@ -3,10 +3,12 @@
 use crate::kept_parts::entries_told;
 use crate::nodes::{all_nodes, restart};
 use crate::words::{message_of, message_told, quorums_of, yes_or_no};
-use paxos_core_world::{kept::Kept, msg::Msg, quorum::Quorums};
 use paxos_core::Node;
-use program_rows::{numbered, owned};
+use paxos_core_world::kept::Kept;
+use paxos_core_world::msg::Msg;
+use paxos_core_world::quorum::Quorums;
 use std::alloc::Global;
+use worked_row_files::{numbered, owned};
 
 /// A message that a node answers, or `no`.
 fn answer_told(alloc: Global, answer: Option<Msg>) -> Option<String> {

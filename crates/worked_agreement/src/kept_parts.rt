@@ -1,10 +1,11 @@
 //! Kept parts of nodes, and what is settled.
 
 use crate::words::{quorums_of, yes_or_no};
-use paxos_core_world::{kept::Kept, quorum::Quorums};
-use paxos_core_model::settled::settled;
-use program_rows::owned;
+use paxos_core_theorem::settled::settled;
+use paxos_core_world::kept::Kept;
+use paxos_core_world::quorum::Quorums;
 use std::alloc::Global;
+use worked_row_files::owned;
 
 /// The numbers of a list with commas between.
 fn entries_of(alloc: Global, text: &str) -> Option<Vec<u32>> {

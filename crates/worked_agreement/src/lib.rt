@@ -34,10 +34,10 @@ mod steps;
 mod words;
 
 use crate::rows::{Rows, tell_settle};
-use program_rows::compare;
 use std::io;
 use std::sync::Wait;
 use std::thread::Threads;
+use worked_row_files::compare;
 
 /// Asks for each row of the files that lie beside the program, and tells how many agree. Nodes that settle take threads.
 pub fn tell<R: Threads + Wait>(rt: &HostRuntime, threads: &R) -> io::Result<()> {

@@ -1,7 +1,8 @@
 //! The nodes of a room.
 
-use paxos_core_world::{kept::Kept, quorum::Quorums};
 use paxos_core::Node;
+use paxos_core_world::kept::Kept;
+use paxos_core_world::quorum::Quorums;
 use std::alloc::Global;
 
 /// All nodes of a room with these quorums.

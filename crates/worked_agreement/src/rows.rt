@@ -6,11 +6,11 @@ use crate::schedules::{alike_told, random_told};
 use crate::settle::{near, noise, refused, settled_on};
 use crate::simulated::simulated;
 use crate::steps::steps_told;
-use program_rows::{Answers, agrees, parts_of_row};
 use std::alloc::Global;
 use std::sync::Wait;
 use std::thread::Threads;
 use std::{fs, io};
+use worked_row_files::{Answers, agrees, parts_of_row};
 
 /// Answers each of them but those about `settle`.
 #[derive(Drop)]

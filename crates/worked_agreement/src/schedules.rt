@@ -3,15 +3,17 @@
 
 use crate::nodes::{all_nodes, restart};
 use crate::words::{numbers, quorums_of};
-use paxos_core_world::{kept::Kept, msg::Msg, quorum::Quorums};
 use paxos_core::Node;
-use paxos_core_model::settled::settled;
+use paxos_core_theorem::settled::settled;
+use paxos_core_world::kept::Kept;
+use paxos_core_world::msg::Msg;
+use paxos_core_world::quorum::Quorums;
 use paxos_reference::label::Label;
 use paxos_reference::world::World;
-use program_rows::{numbered, owned};
 use rand_core::utils::NextWord;
 use rand_pcg::Pcg32;
 use std::alloc::Global;
+use worked_row_files::{numbered, owned};
 
 /// A call of a node, but a restart.
 #[derive(Clone, Copy)]

@@ -1,12 +1,12 @@
 //! What `settle` prints on worked inputs, and on all that is near them.
 
-use cfarm_commands::settle;
-use program_rows::{bytes_of, numbered, owned};
+use cfarm_settle::settle;
 use rand_core::utils::NextWord;
 use rand_pcg::Pcg32;
 use std::alloc::Global;
 use std::sync::Wait;
 use std::thread::Threads;
+use worked_row_files::{bytes_of, numbered, owned};
 
 /// What a run leaves for a user: the status, the line on standard error, and standard output.
 #[derive(Drop)]

@@ -1,8 +1,8 @@
 //! Schedules that are played line by line.
 
-use cfarm_schedules::simulate;
-use program_rows::bytes_of;
+use cfarm_sim::simulate;
 use std::alloc::Global;
+use worked_row_files::bytes_of;
 
 /// What a schedule prints, in hex or `-`, and the line of its refusal or `-`.
 pub fn simulated(alloc: Global, text: &str) -> Option<String> {

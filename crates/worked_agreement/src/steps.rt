@@ -4,8 +4,8 @@ use crate::words::{message_told, node_of, numbers, quorums_of};
 use paxos_core_world::kept::Kept;
 use paxos_reference::label::Label;
 use paxos_reference::world::World;
-use program_rows::owned;
 use std::alloc::Global;
+use worked_row_files::owned;
 
 /// The step of a node alone.
 fn label_of_one(kind: &str, node: u8) -> Option<Label> {

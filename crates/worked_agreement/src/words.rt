@@ -3,8 +3,8 @@
 use paxos_core_world::msg::Msg;
 use paxos_core_world::quorum::Quorums;
 use paxos_core_world::vote::Vote;
-use program_rows::owned;
 use std::alloc::Global;
+use worked_row_files::owned;
 
 /// The numbers of a list with this sign between.
 pub fn numbers(alloc: Global, text: &str, between: char) -> Option<Vec<u16>> {

@@ -2,8 +2,8 @@
 
 use cfarm_files::{DiskFault, FileFault, Files};
 use durable_pair_memory::MemoryPair;
-use program_rows::bytes_of;
 use std::alloc::Global;
+use worked_row_files::bytes_of;
 
 /// How many calls and bytes a disk can note.
 const CALLS: usize = 20_000;

@@ -1,6 +1,6 @@
 //! A meter that shows no progress.
 
-use cfarm_meter::{Ignored, Meter};
+use cfarm_options::{Ignored, Meter};
 use std::alloc::Global;
 
 /// Counts how often it was told and cleared, and keeps the lines of files that were not used.

@@ -1,7 +1,7 @@
 //! The texts of the rows.
 
-use program_rows::bytes_of;
 use std::alloc::Global;
+use worked_row_files::bytes_of;
 
 /// So many copies of a text.
 fn push_copies(text: &mut String, count: u64, copy: &str) -> Option<()> {

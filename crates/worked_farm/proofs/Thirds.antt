@@ -6,8 +6,8 @@ use Rattle.durable_pair.specs.declared.pair.Pair as pairs
 use Rattle.acceptor_log_form.specs.declared.header.Header.{Header}
 use Rattle.acceptor_log.specs.declared.log.Log.{Log}
 use Rattle.paxos_core_world.specs.Quorum.{majority_sizes, Sizes}
-use Rattle.farm_nodes_disks.specs.Journals.{header_of}
-use Rattle.farm_nodes_opened.specs.Back.{AreJournalsOn}
+use Rattle.farm_nodes_open_journals.specs.Journals.{header_of}
+use Rattle.farm_nodes.specs.Back.{AreJournalsOn}
 use Rattle.worked_farm.specs.Nodes.{IsThird}
 
 third_of : {X : Type 0} (xs : List X) → length xs ≡ 3 → (x : X) × (slice_get xs 2 ≡ Some x)

@@ -2,8 +2,8 @@
 use Rattle.std.specs.Prelude.{◌≡◌, ℕ, List, map, Some, slice_get}
 use Rattle.acceptor_log.specs.declared.log.Log.{Log}
 use Rattle.paxos_core_world.specs.Quorum.{majority_sizes}
-use Rattle.farm_nodes_disks.specs.Journals.{header_of}
-use Rattle.farm_nodes_node.specs.declared.farm_node.FarmNode.{FarmNode}
+use Rattle.farm_nodes_open_journals.specs.Journals.{header_of}
+use Rattle.farm_nodes_turn_node.specs.declared.farm_node.FarmNode.{FarmNode}
 use Rattle.rooms_hall.specs.declared.hall.Naming as naming
 
 -- the third journal is that of the third node over this source

@@ -5,23 +5,20 @@ ghost use Rattle.std.specs.List.{AllByRecursion};
 ghost use Rattle.durable_pair_memory.specs.contracts.memory.MemoryPairDisk.TheImpl as memory;
 ghost use Rattle.c_checker_rules.specs.Checked.{program_tree};
 ghost use Rattle.cminor_program_ranges.specs.Names.{HaveNames};
-ghost use Rattle.farm_nodes_node.specs.Asked.{MayBeAsked};
+ghost use Rattle.farm_nodes_turn_node.specs.Asked.{MayBeAsked};
 ghost use Rattle.worked_farm.specs.Nodes.{HasThird};
 
 use crate::linking::{Node, all_linked, disks_of, empty_disk};
 use crate::turning::{back_over, joined, open_three, parted, turned, was_stopped};
 use acceptor_log_form::LogError;
 use durable_pair_memory::MemoryPair;
-use farm_nodes::{Farm, FarmError};
-use rooms_hall::{Hall, Naming};
-use farm_nodes_seated::OpenFault;
-use farm_nodes_compiling::{Optimising, optimisers_of};
-use farm_nodes_source::Source;
-use program_rows::owned;
+use farm_nodes::{Farm, FarmError, OpenFault, Optimising, Source, optimisers_of};
 use rand_pcg::Pcg32;
+use rooms_hall::{Hall, Naming};
 use std::alloc::Global;
 use std::sync::Wait;
 use std::thread::Threads;
+use worked_row_files::owned;
 
 /// How many generators the crashes are drawn by, the first ones for a failure and the following ones for the next.
 const GENERATORS: u64 = 16;

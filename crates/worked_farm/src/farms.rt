@@ -10,16 +10,14 @@ use crate::rows::{Row, Trial};
 use crate::stranger::stranger_told;
 use crate::together::together_told;
 use crate::turning::TURNS;
-use farm_nodes::Farm;
-use rooms_hall::{Hall, Naming, Opened};
-use farm_nodes_compiling::{Optimising, optimisers_of};
-use farm_nodes_threads::run_threads;
+use farm_nodes::{Farm, Optimising, optimisers_of, run_threads};
 use parallel_validate::OpenGate;
-use program_rows::owned;
+use rooms_hall::{Hall, Naming, Opened};
 use std::alloc::Global;
 use std::marker::Brand;
 use std::sync::Wait;
 use std::thread::Threads;
+use worked_row_files::owned;
 
 /// The answer, in a hall of its own.
 pub(crate) fn told<R: Threads + Wait + Sync>(threads: &R, alloc: Global, row: Row) -> Option<String>

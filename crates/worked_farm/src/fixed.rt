@@ -2,25 +2,23 @@
 
 use crate::linking::disks_of;
 use crate::turning::{open_three, turned};
-use acceptor_log_form::{Header, Record};
 use acceptor_log::Log;
+use acceptor_log_form::{Header, Record};
 use alloc_check_verdict::EquationLists as PlaceLists;
 use constprop_check::FactLists;
 use cse_check::EquationLists;
 use durable_pair_memory::MemoryPair;
-use farm_nodes::Farm;
-use farm_nodes_node::FarmNode;
-use rooms_hall::{Hall, Naming};
-use farm_nodes_passes::Oracles;
+use farm_nodes::{Farm, FarmNode, Oracles};
 use lang_base::NoMemory;
 use linearize_check::{Linearize, Order, arrange};
 use linearize_check_layout::rising;
 use offers::Offer;
-use program_rows::owned;
 use rand_pcg::Pcg32;
+use rooms_hall::{Hall, Naming};
 use std::alloc::Global;
 use std::sync::Wait;
 use std::thread::Threads;
+use worked_row_files::owned;
 
 /// Proposes only in the fourth pass, and there one order.
 #[derive(Clone, Copy, Debug, PartialEq, Eq)]

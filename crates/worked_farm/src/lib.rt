@@ -23,10 +23,10 @@ mod turning;
 
 use crate::farms::told;
 use crate::rows::row_of;
-use program_rows::{agrees, parts_of_row};
 use std::sync::Wait;
 use std::thread::Threads;
 use std::{fs, io};
+use worked_row_files::{agrees, parts_of_row};
 
 /// The file of the rows.
 const FARMS: &str = "farms.txt";

@@ -7,17 +7,13 @@ ghost use Rattle.lang.specs.Form.{IsProgram};
 ghost use Rattle.linear_language.specs.Function.{IsFunction};
 
 use durable_pair_memory::MemoryPair;
-use farm_nodes_node::FarmNode;
-use rooms_hall::Naming;
-use farm_nodes_compiling::Optimisers;
-use farm_nodes_source::Source;
-use farm_nodes_linked::linked;
-use farm_nodes_node_meeting::meet;
+use farm_nodes::{FarmNode, Optimisers, Source, linked, meet};
 use lang::write_program;
 use lang_base::{Program, Shown};
 use linear::run;
 use linear_language::{Function, Linear};
 use rand_pcg::Pcg32;
+use rooms_hall::Naming;
 use std::alloc::Global;
 
 /// More instructions than any of the programs does.

@@ -8,15 +8,13 @@ use crate::linking::{Node, all_linked, crashed_of, empty_disk, first_linked};
 use crate::turning::{open_three, turned};
 use acceptor_log_form::LogError;
 use durable_pair_memory::MemoryPair;
-use farm_nodes::{Farm, FarmError};
+use farm_nodes::{Farm, FarmError, OpenFault, Optimisers, Optimising, optimisers_of};
+use farm_nodes_turn_offer::Fault;
 use rooms_hall::{Hall, Naming};
-use farm_nodes_seated::OpenFault;
-use farm_nodes_compiling::{Optimisers, Optimising, optimisers_of};
-use farm_nodes_offers::Fault;
-use program_rows::owned;
 use std::alloc::Global;
 use std::sync::Wait;
 use std::thread::Threads;
+use worked_row_files::owned;
 
 /// How many crashes are tried of each moment.
 const CRASHES: u64 = 2;

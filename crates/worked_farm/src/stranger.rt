@@ -5,22 +5,20 @@ ghost use Rattle.std.specs.List.{AllByRecursion};
 ghost use Rattle.durable_pair_memory.specs.contracts.memory.MemoryPairDisk.TheImpl as memory;
 ghost use Rattle.c_checker_rules.specs.Checked.{program_tree};
 ghost use Rattle.cminor_program_ranges.specs.Names.{HaveNames};
-ghost use Rattle.farm_nodes_node.specs.Asked.{MayBeAsked};
+ghost use Rattle.farm_nodes_turn_node.specs.Asked.{MayBeAsked};
 ghost use Rattle.worked_farm.specs.Nodes.{HasThird};
 
 use crate::linking::{all_linked, crashed_of, disks_of};
 use crate::turning::{back_over, joined, open_three, parted, refused_over, turned};
 use acceptor_log_form::LogError;
 use durable_pair_memory::MemoryPair;
-use farm_nodes::Farm;
-use rooms_hall::{Hall, Naming};
-use farm_nodes_compiling::{Optimisers, Optimising, optimisers_of};
-use farm_nodes_restart_seat::RestartFault;
-use program_rows::owned;
+use farm_nodes::{Farm, Optimisers, Optimising, RestartFault, optimisers_of};
 use rand_pcg::Pcg32;
+use rooms_hall::{Hall, Naming};
 use std::alloc::Global;
 use std::sync::Wait;
 use std::thread::Threads;
+use worked_row_files::owned;
 
 /// A farm of three nodes after its turns.
 fn whole<H: Naming + Send, R: Threads + Wait + Sync>(

@@ -2,16 +2,14 @@
 
 use crate::linking::{all_linked, disks_of};
 use crate::turning::{TURNS, open_three};
-use farm_nodes::Farm;
-use rooms_hall::{Hall, Naming};
-use farm_nodes_compiling::{Optimising, optimisers_of};
-use farm_nodes_threads::run_threads;
+use farm_nodes::{Farm, Optimising, optimisers_of, run_threads};
 use parallel_validate::Gate;
-use program_rows::owned;
+use rooms_hall::{Hall, Naming};
 use std::alloc::Global;
 use std::sync::Wait;
 use std::sync::atomic::{AtomicBool, Ordering};
 use std::thread::{self, Threads};
+use worked_row_files::owned;
 
 /// How often a turn looks for the beginning or the end of another.
 const LOOKS: u32 = 1_000_000;

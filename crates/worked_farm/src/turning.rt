@@ -4,21 +4,16 @@ ghost use Rattle.std.specs.Prelude.{◌≡◌, ◌<◌, ℕ, List, length, IfSom
 ghost use Rattle.std.specs.List.{AllByRecursion};
 ghost use Rattle.c_checker_rules.specs.Checked.{program_tree};
 ghost use Rattle.cminor_program_ranges.specs.Names.{HaveNames};
-ghost use Rattle.farm_nodes_node.specs.Asked.{MayBeAsked};
+ghost use Rattle.farm_nodes_turn_node.specs.Asked.{MayBeAsked};
 ghost use Rattle.worked_farm.specs.Nodes.{HasThird, IsThirdNode};
 
 use acceptor_log_form::LogError;
 use durable_model::Disk;
 use durable_pair::Pair;
-use farm_nodes::{Farm, FarmError};
-use farm_nodes_node::{FarmNode, Turn};
-use rooms_hall::{Hall, Naming};
-use farm_nodes_passes::Oracles;
-use farm_nodes_restart_seat::RestartFault;
-use farm_nodes_returning::restart;
-use farm_nodes_threads::run_threads;
-use farm_nodes_offers::Fault;
+use farm_nodes::{Farm, FarmError, FarmNode, Oracles, RestartFault, Turn, restart, run_threads};
+use farm_nodes_turn_offer::Fault;
 use parallel_validate::OpenGate;
+use rooms_hall::{Hall, Naming};
 use std::alloc::Global;
 use std::sync::Wait;
 use std::thread::Threads;

@@ -1,17 +1,15 @@
 //! What is told of farms, in words.
 
 use acceptor_log_form::LogError;
-use cfarm_build_faults::BuildError;
+use cfarm_build::BuildError;
 use durable_pair_memory::MemoryPair;
-use program_rows::owned;
+use paxos_core_world::quorum::Quorums;
+use rooms_hall::{Hall, Naming};
 use std::alloc::Global;
 use std::sync::Wait;
 use std::thread::Threads;
-use farm_nodes::FarmError;
-use rooms_hall::{Hall, Naming};
-use farm_nodes_seated::OpenFault;
-use paxos_core_world::quorum::Quorums;
-use worked_whole::opened_on;
+use worked_row_files::owned;
+use worked_whole::{FarmError, OpenFault, opened_on};
 
 /// The status and the line of a build that is refused.
 pub(crate) fn line_of(alloc: Global, fault: &BuildError) -> Option<String> {

@@ -1,21 +1,20 @@
 //! Journals in which two functions have exchanged their rooms.
 
 use crate::answers::line_of;
-use acceptor_log_form::{Header, Record};
 use acceptor_log::Log;
-use paxos_core_world::quorum::Quorums;
+use acceptor_log_form::{Header, Record};
 use cfarm_build::build;
-use cfarm_meter::Meter;
+use cfarm_options::Meter;
 use durable_model::Disk;
 use durable_pair_memory::MemoryPair;
-use program_rows::owned;
+use farm_nodes_source::prepare;
+use paxos_core_world::quorum::Quorums;
+use rooms_hall::{Hall, Naming};
 use std::alloc::Global;
 use std::sync::Wait;
 use std::thread::Threads;
-use rooms_hall::{Hall, Naming};
-use farm_nodes_compiling::{Optimising, optimisers_of};
-use worked_whole::{TURNS, empty_disk, whole_disks};
-use farm_nodes_source::prepare;
+use worked_row_files::owned;
+use worked_whole::{Optimising, TURNS, empty_disk, optimisers_of, whole_disks};
 
 /// The same record in the room of the same pass of the other function, of the first two: they have the rooms 0 to 3, and 4 to 7.
 fn moved(entry: Record) -> Record {

@@ -10,11 +10,11 @@ use crate::stopped::stopped_told;
 use crate::strangers::{edited_told, exchanged_told, joined_told};
 use crate::swept::swept_told;
 use crate::unread::unread_told;
+use rooms_hall::{Naming, Opened};
 use std::alloc::Global;
 use std::marker::Brand;
 use std::sync::Wait;
 use std::thread::Threads;
-use rooms_hall::{Naming, Opened};
 
 /// The answer, in a hall of its own.
 pub(crate) fn told<R: Threads + Wait + Sync>(

@@ -3,14 +3,14 @@
 use crate::answers::opening_told;
 use acceptor_log_form::{Header, header_bytes};
 use durable_pair_memory::MemoryPair;
-use program_rows::bytes_of;
+use farm_nodes_source::prepare;
+use paxos_core_world::quorum::Quorums;
+use rooms_hall::{Hall, Naming};
 use std::alloc::Global;
 use std::sync::Wait;
 use std::thread::Threads;
-use rooms_hall::{Hall, Naming};
-use paxos_core_world::quorum::Quorums;
+use worked_row_files::bytes_of;
 use worked_whole::disk_of;
-use farm_nodes_source::prepare;
 
 /// Adds a record to a journal: its gate, its length, and its bytes.
 fn add(journal: &mut Vec<u8>, body: &[u8]) -> Option<()> {

@@ -32,10 +32,10 @@ mod unread;
 
 use crate::farms::told;
 use crate::rows::row_of;
-use program_rows::{agrees, parts_of_row};
 use std::sync::Wait;
 use std::thread::Threads;
 use std::{fs, io};
+use worked_row_files::{agrees, parts_of_row};
 
 /// The file of the rows.
 const HOSTILE: &str = "hostile.txt";

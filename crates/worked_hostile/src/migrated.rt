@@ -2,15 +2,17 @@
 
 use crate::answers::is_failure;
 use durable_pair_memory::MemoryPair;
-use program_rows::owned;
+use farm_nodes_source::prepare;
+use paxos_core_world::quorum::Quorums;
+use rooms_hall::{Hall, Naming};
 use std::alloc::Global;
 use std::sync::Wait;
 use std::thread::Threads;
-use worked_whole::{BYTES, CALLS, Node, all_linked, bytes_of_all, crashed, crashed_of, opened_on, ran_on, stays, whole};
-use farm_nodes::Farm;
-use rooms_hall::{Hall, Naming};
-use paxos_core_world::quorum::Quorums;
-use farm_nodes_source::prepare;
+use worked_row_files::owned;
+use worked_whole::{
+    BYTES, CALLS, Farm, Node, all_linked, bytes_of_all, crashed, crashed_of, opened_on, ran_on,
+    stays, whole,
+};
 
 /// More calls of a pair than an opening makes.
 const MOST: usize = 100;

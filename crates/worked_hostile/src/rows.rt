@@ -1,7 +1,7 @@
 //! What a row asks for.
 
-use std::alloc::Global;
 use paxos_core_world::quorum::Quorums;
+use std::alloc::Global;
 
 /// What a farm suffers.
 #[derive(Clone, Copy, Debug, PartialEq, Eq)]

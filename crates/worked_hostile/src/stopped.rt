@@ -3,16 +3,16 @@
 use crate::answers::is_failure;
 use acceptor_log_form::LogError;
 use durable_pair_memory::MemoryPair;
-use farm_nodes_offers::Fault;
-use program_rows::owned;
+use farm_nodes_turn_offer::Fault;
+use paxos_core_world::quorum::Quorums;
+use rooms_hall::{Hall, Naming};
 use std::alloc::Global;
 use std::sync::Wait;
 use std::thread::Threads;
-use farm_nodes::FarmError;
-use rooms_hall::{Hall, Naming};
-use worked_whole::{Node, all_linked, codes_of, crashed, crashed_of, disks_of, ran_on, stays};
-use farm_nodes_seated::OpenFault;
-use paxos_core_world::quorum::Quorums;
+use worked_row_files::owned;
+use worked_whole::{
+    FarmError, Node, OpenFault, all_linked, codes_of, crashed, crashed_of, disks_of, ran_on, stays,
+};
 
 /// So many moments are tried at most.
 const MOST: usize = 400;

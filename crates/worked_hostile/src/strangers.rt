@@ -1,11 +1,11 @@
 //! Journals of another farm.
 
 use crate::answers::opening_told;
+use paxos_core_world::quorum::Quorums;
+use rooms_hall::{Hall, Naming};
 use std::alloc::Global;
 use std::sync::Wait;
 use std::thread::Threads;
-use rooms_hall::{Hall, Naming};
-use paxos_core_world::quorum::Quorums;
 use worked_whole::{empty_disk, whole_disks};
 
 /// The journals of the first two nodes are exchanged.

@@ -5,16 +5,15 @@ ghost use Rattle.std.specs.Prelude.{◌<◌, length};
 use crate::answers::line_of_farm;
 use acceptor_log_form::LogError;
 use durable_pair_memory::MemoryPair;
-use farm_nodes_function_rooms::RoomFault;
-use program_rows::owned;
+use paxos_core_world::quorum::Quorums;
+use rooms_hall::{Hall, Naming};
 use std::alloc::Global;
 use std::sync::Wait;
 use std::thread::Threads;
-use farm_nodes::FarmError;
-use rooms_hall::{Hall, Naming};
-use farm_nodes_seated::OpenFault;
-use paxos_core_world::quorum::Quorums;
-use worked_whole::{bytes_of_all, disk_of, opened_on, whole_disks};
+use worked_row_files::owned;
+use worked_whole::{
+    FarmError, OpenFault, RoomFault, bytes_of_all, disk_of, opened_on, whole_disks,
+};
 
 /// What is done to a journal at a place.
 #[derive(Clone, Copy)]

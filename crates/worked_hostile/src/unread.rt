@@ -2,13 +2,13 @@
 
 use crate::answers::is_failure;
 use durable_pair_memory::MemoryPair;
-use program_rows::owned;
+use paxos_core_world::quorum::Quorums;
+use rooms_hall::{Hall, Naming};
 use std::alloc::Global;
 use std::sync::Wait;
 use std::thread::Threads;
-use rooms_hall::{Hall, Naming};
+use worked_row_files::owned;
 use worked_whole::{Node, all_linked, crashed_of, opened_on, ran_on, stays, whole};
-use paxos_core_world::quorum::Quorums;
 
 /// More calls of a disk than an opening makes.
 const MOST: usize = 100;

@@ -1,7 +1,7 @@
 //! Journals that are made of what others list.
 
-use acceptor_log_form::{Header, Record};
 use acceptor_log::{Log, read};
+use acceptor_log_form::{Header, Record};
 use durable_model::{Disk, MemoryDisk};
 use std::alloc::Global;
 

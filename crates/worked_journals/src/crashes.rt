@@ -2,8 +2,8 @@
 
 ghost use Rattle.acceptor_log.specs.Acknowledged.{IsSound};
 
-use acceptor_log_form::{Header, LogError, Record};
 use acceptor_log::Log;
+use acceptor_log_form::{Header, LogError, Record};
 use durable_model::{Disk, MemoryDisk};
 use lang_base::Row;
 use rand_pcg::Pcg32;

@@ -1,8 +1,8 @@
 //! The forms of headers, and journals read in the form that is asked for.
 
-use acceptor_log_form::{Header, LogError, Record};
 use acceptor_log::read;
-use acceptor_log_old_form::read_old;
+use acceptor_log_form::{Header, LogError, Record};
+use acceptor_log_old::read_old;
 use std::alloc::Global;
 
 /// A header, and whether a journal of an earlier version is asked for.

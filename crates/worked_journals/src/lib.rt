@@ -26,8 +26,8 @@ mod migrations;
 mod rows;
 
 use crate::rows::Rows;
-use program_rows::compare;
 use std::io;
+use worked_row_files::compare;
 
 /// Asks for each row of the files that lie beside the program, and tells how many agree.
 pub fn tell(rt: &HostRuntime) -> io::Result<()> {

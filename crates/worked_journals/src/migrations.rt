@@ -1,13 +1,13 @@
 //! Journals of earlier forms that are migrated on a pair of disks.
 
-use acceptor_log_form::{Header, LogError};
 use acceptor_log::Log;
+use acceptor_log_form::{Header, LogError};
 use acceptor_log_migrating::migrate;
 use durable_pair::Pair;
 use durable_pair_memory::MemoryPair;
-use program_rows::{numbered, owned};
 use rand_pcg::Pcg32;
 use std::alloc::Global;
+use worked_row_files::{numbered, owned};
 
 /// What a new disk may hold before.
 const LEFT_OVER: &[u8] = b"something that was there before, and is longer than a header";

@@ -3,12 +3,11 @@ use crate::changes::{changed, cut};
 use crate::crashes::all_survive;
 use crate::forms::{Asked, asked_of, records_in};
 use crate::migrations::{made_after_stops, made_of, made_over};
-use acceptor_log_form::{Header, LogError, Record};
 use acceptor_log::Log;
-use acceptor_log_form::kept_parts;
+use acceptor_log_form::{Header, LogError, Record, kept_parts};
 use durable_model::{Disk, MemoryDisk};
-use program_rows::{Answers, bytes_of, numbered, owned};
 use std::alloc::Global;
+use worked_row_files::{Answers, bytes_of, numbered, owned};
 
 /// Answers what a row asks.
 #[derive(Clone, Copy)]

@@ -2,8 +2,8 @@
 
 use crate::judging::{is_written_again, refusal};
 use lang_base::Pass;
-use program_rows::owned;
 use std::alloc::Global;
+use worked_row_files::owned;
 
 /// Whether each strict front ends within the form, a byte behind it is left over, and another first byte is no pass's.
 fn are_refused<P: Pass>(alloc: Global, bytes: &mut Vec<u8>) -> Option<bool> {

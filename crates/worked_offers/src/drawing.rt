@@ -2,10 +2,10 @@
 
 use crate::proposing::output_of;
 use lang_base::Oracle;
-use program_rows::owned;
 use rand_core::utils::NextWord;
 use rand_pcg::Pcg32;
 use std::alloc::{AllocError, Global};
+use worked_row_files::owned;
 
 /// How functions are drawn: the bytes in front of the nodes, how many registers and nodes there are, and the forms of
 /// a node, of which each is as likely. In a form `r` stands for a register, `n` for a node, `g` for one of two globals

@@ -10,8 +10,8 @@ use oracle_alloc::AllocOracle;
 use oracle_const::ConstOracle;
 use oracle_cse::CseOracle;
 use oracle_order::OrderOracle;
-use program_rows::{numbered, owned};
 use std::alloc::Global;
+use worked_row_files::{numbered, owned};
 
 /// An optimiser whose pass says what is wrong with an offer.
 pub trait Explained: Oracle {

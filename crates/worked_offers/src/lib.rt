@@ -32,10 +32,10 @@ mod validations;
 
 use crate::rows::Rows;
 use crate::validations::tell_validations;
-use program_rows::compare;
 use std::io;
 use std::sync::Wait;
 use std::thread::Threads;
+use worked_row_files::compare;
 
 /// Asks for each row of the files that lie beside the program, and tells how many agree. Many validations take threads.
 pub fn tell<R: Threads + Wait + Sync>(rt: &HostRuntime, threads: &R) -> io::Result<()> {

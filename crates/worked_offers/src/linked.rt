@@ -4,8 +4,8 @@ use crate::proposing::{function_of, text_of};
 use lang_base::{Language, Pass, Program, Row};
 use linker::{ChainOf, LinkError, NamedOf, are_names, link_passes};
 use offers::Offer;
-use program_rows::{bytes_of, numbered};
 use std::alloc::Global;
+use worked_row_files::{bytes_of, numbered};
 
 /// The offers of a function's chain.
 type Offers<P> = Vec<Offer<P>>;

@@ -9,8 +9,8 @@ use linearize_check_layout::{reachable, rising};
 use ltl::{Function, Ltl};
 use offers::Parts;
 use oracle_order::OrderOracle;
-use program_rows::owned;
 use std::alloc::Global;
+use worked_row_files::owned;
 
 /// Nodes with commas between; `-` stands for none.
 fn nodes_of(alloc: Global, text: &str) -> Option<Vec<u16>> {

@@ -3,9 +3,9 @@
 use crate::judging::written;
 use lang_base::{Language, Oracle, Pass};
 use offers::Offer;
-use program_rows::{bytes_of, numbered, owned};
 use rand_pcg::Pcg32;
 use std::alloc::Global;
+use worked_row_files::{bytes_of, numbered, owned};
 
 /// The function that is spelled so; bytes behind it are none.
 pub fn function_of<L: Language>(alloc: Global, text: &str) -> Option<L::Fun> {

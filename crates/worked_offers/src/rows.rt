@@ -14,9 +14,9 @@ use oracle_alloc::AllocOracle;
 use oracle_const::ConstOracle;
 use oracle_cse::CseOracle;
 use oracle_order::OrderOracle;
-use program_rows::{Answers, bytes_of};
 use rtl_language::Rtl;
 use std::alloc::Global;
+use worked_row_files::{Answers, bytes_of};
 
 /// What the questions of a file are about: offers of a pass, slots, orders of nodes, or linking.
 #[derive(Drop)]

@@ -3,12 +3,12 @@
 use crate::drawing::{drawing_of, drawn_text};
 use crate::proposing::{function_of, proposed};
 use alloc_check::baseline;
-use ltl::{Block, Body, Function};
 use locations::{Location, Move};
+use ltl::{Block, Body, Function};
 use oracle_alloc::AllocOracle;
-use program_rows::owned;
 use rtl_language::Rtl;
 use std::alloc::Global;
+use worked_row_files::owned;
 
 fn is_slot(location: &Location) -> bool {
     matches!(location, Location::InSlot(_))

@@ -6,12 +6,12 @@ use cse_check::Cse;
 use lang_base::Pass;
 use linearize_check::Linearize;
 use parallel_validate::{Gate, Job, OpenGate, check_all};
-use program_rows::{agrees, bytes_of, owned, parts_of_row};
 use std::alloc::Global;
 use std::sync::Wait;
 use std::sync::atomic::{AtomicBool, Ordering};
 use std::thread::{self, Threads};
 use std::{fs, io};
+use worked_row_files::{agrees, bytes_of, owned, parts_of_row};
 
 /// The file of the rows.
 const NAME: &str = "validations.txt";

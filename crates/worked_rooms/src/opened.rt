@@ -2,8 +2,9 @@
 
 ghost use Rattle.std.specs.Prelude.{◌≡◌, ◌<◌, ◌+◌, [], ◌∷◌, None, IfSome, IsTrue};
 
-use paxos_core_world::{kept::Kept, quorum::Quorums};
-use paxos_core_model::settled::settled;
+use paxos_core_theorem::settled::settled;
+use paxos_core_world::kept::Kept;
+use paxos_core_world::quorum::Quorums;
 use rooms_function::{FunctionOffers, FunctionRoom, FunctionSeat};
 use rooms_seat::{Dealer, WordSeat};
 use std::alloc::Global;

@@ -3,7 +3,8 @@
 
 use crate::opened::seats_of;
 use crate::turns::{Turn, is_as_in};
-use paxos_core_world::{kept::Kept, quorum::Quorums};
+use paxos_core_world::kept::Kept;
+use paxos_core_world::quorum::Quorums;
 use paxos_reference::world::World;
 use rand_core::utils::NextWord;
 use rand_pcg::Pcg32;

@@ -2,16 +2,17 @@
 //! the words that it sees are those that the reference shows.
 
 ghost use Rattle.std.specs.Prelude.{◌<◌};
-ghost use Rattle.rooms_state.specs.Would.{IsAmong};
+ghost use Rattle.rooms_seat_state.specs.Would.{IsAmong};
 
-use paxos_core_world::{kept::Kept, msg::Msg};
-use paxos_core_law::step::Step;
+use paxos_core_node_steps::step::Step;
+use paxos_core_world::kept::Kept;
+use paxos_core_world::msg::Msg;
 use paxos_reference::label::Label;
 use paxos_reference::world::World;
-use rooms_rule::acceptor::AcceptorWord;
-use rooms_rule::proposer::ProposerWord;
 use rooms_seat::WordSeat;
-use rooms_state::act::Act;
+use rooms_seat_state::act::Act;
+use rooms_words::acceptor::AcceptorWord;
+use rooms_words::proposer::ProposerWord;
 
 /// What a seat is asked, some of it about another node.
 #[derive(Clone, Copy)]

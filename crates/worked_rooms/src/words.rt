@@ -1,8 +1,8 @@
 //! Words as numbers.
 
 use paxos_core_world::vote::Vote;
-use rooms_rule::acceptor::AcceptorWord;
-use rooms_rule::proposer::ProposerWord;
+use rooms_words::acceptor::AcceptorWord;
+use rooms_words::proposer::ProposerWord;
 
 /// Whether the acceptor's word is this number, which stands for it.
 fn is_acceptor(word: AcceptorWord, packed: u64, number: u64) -> bool {

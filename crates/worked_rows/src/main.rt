@@ -1,6 +1,6 @@
 //! Asks for every row of the data files, and tells how many of each file are answered as they say, and which are not: [`commands`] asks
-//! for those of command lines, and the crates [`worked_agreement`], [`worked_texts`], [`worked_forms`], [`worked_offers`],
-//! [`worked_farm`], [`worked_chains`], [`worked_journals`] and [`worked_hostile`] for theirs.
+//! for those of command lines, and the crates [`worked_agreement`], [`worked_texts`], [`worked_offers`], [`worked_farm`],
+//! [`worked_journals`] and [`worked_hostile`] for theirs.
 //!
 //! All are one program, since a program is linked with all that it stands on, by two compilers.
 #![tactic(auto)]
@@ -14,11 +14,11 @@ use std::thread::Threads;
 fn main(rt: HostRuntime) -> io::Result<()> {
     commands::tell(&rt, &rt)?;
     worked_agreement::tell(&rt, &rt)?;
-    worked_texts::tell(&rt)?;
-    worked_forms::tell(&rt)?;
+    worked_texts::tell_texts(&rt)?;
+    worked_texts::tell_forms(&rt)?;
     worked_offers::tell(&rt, &rt)?;
     worked_farm::tell(&rt, &rt)?;
-    worked_chains::tell(&rt)?;
+    worked_texts::tell_programs(&rt)?;
     worked_journals::tell(&rt)?;
     worked_hostile::tell(&rt, &rt)
 }

@@ -4,8 +4,8 @@ use c_lexer::lex;
 use c_reader_expressions::expression;
 use c_reader_tokens::Fault;
 use c_syntax::{BinaryOperator, Expression, UnaryOperator};
-use program_rows::{numbered, owned};
 use std::alloc::{AllocError, Global};
+use worked_row_files::{numbered, owned};
 
 /// What stands in front of an operand; those that no row has are told as one.
 fn unary_text(operator: UnaryOperator) -> &'static str {

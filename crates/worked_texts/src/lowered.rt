@@ -6,10 +6,10 @@ use cminor::lower;
 use cminor_language::Cminor;
 use cminor_program_ranges::lowered_program_fits;
 use lang_base::{Language, Named, Program};
-use program_rows::{numbered, owned};
 use rtl_language::Rtl;
 use rtlgen::translate;
 use std::alloc::{AllocError, Global};
+use worked_row_files::{numbered, owned};
 
 /// The cells of a global, and the words that they begin with.
 fn push_global(out: &mut String, global: &lang_base::Global) -> Result<(), AllocError> {

@@ -1,8 +1,8 @@
 //! What operators and conditions give.
 
 use ints::{Cond, Op, eval_c, eval_cond, eval_m};
-use program_rows::{numbered, owned};
 use std::alloc::Global;
+use worked_row_files::{numbered, owned};
 
 /// A code and two words.
 fn words_of(words: &str) -> Option<(u8, [u32; 2])> {

@@ -6,8 +6,8 @@ use crate::operators::{code_told, condition_told, operator_told};
 use crate::texts::text_of;
 use crate::tokens::{read_told, tokens_told};
 use crate::trees::{block_told, declaration_told, else_told, unit_told};
-use program_rows::Answers;
 use std::alloc::Global;
+use worked_row_files::Answers;
 
 /// Any question.
 #[derive(Drop)]

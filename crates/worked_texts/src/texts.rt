@@ -1,7 +1,7 @@
 //! The texts of questions.
 
-use program_rows::bytes_of;
 use std::alloc::Global;
+use worked_row_files::bytes_of;
 
 /// So many pieces.
 fn push_pieces(text: &mut Vec<u8>, count: u32, piece: &str) -> Option<()> {

@@ -4,8 +4,8 @@ use c_lexer::lex;
 use c_reader::{read, read_declaration};
 use c_reader_statements::read_block;
 use c_syntax::{Declaration, Statement};
-use program_rows::owned;
 use std::alloc::Global;
+use worked_row_files::owned;
 
 /// How many statements a block has, and how many tokens are left.
 pub fn block_told(alloc: Global, text: &[u8]) -> Option<String> {

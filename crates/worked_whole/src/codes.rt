@@ -1,11 +1,8 @@
 //! The code that nodes link, by functions.
 
 use crate::running::Node;
+use farm_nodes::{NumberedSeat, has_learned_all, learned_offer, meet};
 use rooms_hall::Naming;
-use farm_nodes_linked::has_learned_all;
-use farm_nodes_node_meeting::meet;
-use rooms_numbered::NumberedSeat;
-use farm_nodes_seat_meeting::learned_offer;
 use std::alloc::Global;
 
 /// The offer that is learned in the last room of a function, of which its code is a part; no bytes where it is not linked.

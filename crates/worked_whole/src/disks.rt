@@ -3,8 +3,8 @@
 use crate::running::Node;
 use durable_model::Disk;
 use durable_pair_memory::MemoryPair;
-use rooms_hall::Naming;
 use rand_pcg::Pcg32;
+use rooms_hall::Naming;
 use std::alloc::Global;
 
 /// How many calls and bytes a disk of a farm can note.

@@ -8,5 +8,6 @@ mod to_the_end;
 
 pub use codes::{all_linked, codes_of, stays};
 pub use disks::{BYTES, CALLS, bytes_of_all, crashed, crashed_of, disk_of, disks_of, empty_disk};
+pub use farm_nodes::{Farm, FarmError, OpenFault, Optimising, RoomFault, optimisers_of};
 pub use running::{Node, TURNS, opened_on, ran_on};
 pub use to_the_end::{whole, whole_disks};

@@ -2,17 +2,14 @@
 
 ghost use Rattle.std.specs.Prelude.{IfOk};
 ghost use Rattle.std.specs.List.{AllByRecursion};
-ghost use Rattle.farm_nodes_node.specs.Asked.{MayBeAsked};
+ghost use Rattle.farm_nodes.specs.Asked.{MayBeAsked};
 
 use durable_pair::Pair;
 use durable_pair_memory::MemoryPair;
-use farm_nodes::{Farm, FarmError};
-use farm_nodes_node::FarmNode;
-use rooms_hall::{Hall, Naming};
-use farm_nodes_compiling::{Optimisers, Optimising, optimisers_of};
-use paxos_core_world::quorum::Quorums;
-use farm_nodes_threads::run_threads;
+use farm_nodes::{Farm, FarmError, FarmNode, Optimisers, Optimising, optimisers_of, run_threads};
 use parallel_validate::OpenGate;
+use paxos_core_world::quorum::Quorums;
+use rooms_hall::{Hall, Naming};
 use std::alloc::Global;
 use std::sync::Wait;
 use std::thread::Threads;

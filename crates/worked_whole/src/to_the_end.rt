@@ -3,8 +3,8 @@
 use crate::disks::{crashed_of, disks_of};
 use crate::running::{Node, ran_on};
 use durable_pair_memory::MemoryPair;
-use rooms_hall::{Hall, Naming};
 use paxos_core_world::quorum::Quorums;
+use rooms_hall::{Hall, Naming};
 use std::alloc::Global;
 use std::sync::Wait;
 use std::thread::Threads;

@@ -6,7 +6,6 @@ use crate::commands::bundled::bundled;
 use crate::commands::failing::failing;
 use crate::commands::machine_files::{answer_here, answer_proved, answer_twice, bytes_here};
 use crate::commands::runs::{Here, answer, linked, words_of};
-use program_rows::{agrees, parts_of_row};
 use rooms_hall::{Naming, Opened};
 use std::alloc::Global;
 use std::marker::Brand;
@@ -14,6 +13,7 @@ use std::sync::Wait;
 use std::thread::Threads;
 use std::{fs, io};
 use worked_fakes::{Held, text_of};
+use worked_row_files::{agrees, parts_of_row};
 
 /// The file of the rows.
 const NAME: &str = "commands.txt";

@@ -1,7 +1,7 @@
 -- Behind a closed gate nothing counts, and once the block is whole behind it either gate is right.
 use Rattle.std.proofs.Common.{◌≡◌, ◌+◌, [], ◌∷◌, ◌++◌, List, ℕ, length, subst}
 use Rattle.std.specs.Result.{OnOk}
-use Rattle.durable_model_writes.specs.Writes.{overwritten}
+use Rattle.durable_model.specs.Writes.{overwritten}
 use Rattle.durable_model.specs.Moments.{composed}
 use Rattle.acceptor_log_form.specs.Text.{header_size, header_text}
 use Rattle.acceptor_log_form.specs.Lists.{Between}

@@ -1,6 +1,6 @@
 -- What was written stands at the front, and a closed gate behind it.
 use Rattle.std.proofs.Common.{◌≡◌, ℕ, List, [], ◌∷◌, ◌++◌, length, sym, ap, ◌∙◌, arith}
-use Rattle.durable_model_writes.specs.Writes.{overwritten}
+use Rattle.durable_model.specs.Writes.{overwritten}
 use Rattle.acceptor_log_form.specs.Text.{header_text, header_size}
 use Rattle.acceptor_log.proofs.Crash.{stands-created}
 use Rattle.acceptor_log.proofs.opening.lay.Goals as goal

@@ -1,3 +1,4 @@
+-- Why `read_between` meets its clauses `lists` and `no_fault`.
 use Rattle.acceptor_log_form.proofs.Between.{between-lists, between-no_fault}
 use Rattle.acceptor_log_form.proofs.laws.read_between.Goals as goal
 

@@ -1,3 +1,4 @@
+-- Why `kept_parts` meets its clauses `in_order` and `refused`.
 use Rattle.std.proofs.Common.{◌≡◌, subst}
 use Rattle.std.specs.Prelude.{OnOk, IfErr}
 use Rattle.acceptor_log_form.specs.declared.errors.LogError.TheVariants.{BadRecord}

@@ -1,3 +1,4 @@
+-- Why the loop of `journal_bytes` over `entry` keeps the invariant.
 use Rattle.std.proofs.Common.{◌≡◌, ℕ, ◌+◌, List, [], ◌∷◌, ◌++◌, take, sym, ap, ◌∙◌, append_assoc, arith}
 use Rattle.std.proofs.lemmas.List.{take_more}
 use Rattle.acceptor_log_form.specs.declared.record.Record.{Record}

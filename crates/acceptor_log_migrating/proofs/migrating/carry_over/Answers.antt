@@ -1,6 +1,6 @@
 -- The old journal counts until the new one is durable.
 use Rattle.std.proofs.Common.{◌≡◌, inl, List, ℕ, sym, ◌∙◌, ap, subst, get_or}
-use Rattle.durable_pair_turning.proofs.Turned.{weaker}
+use Rattle.acceptor_log_migrating.proofs.Turned.{weaker}
 use Rattle.acceptor_log_form.specs.declared.errors.LogError.TheVariants.{Device}
 use Rattle.acceptor_log_migrating.specs.Stands.{IsNotMigrated}
 use Rattle.acceptor_log_migrating.proofs.Moved.{IsMade, never_device, made_for, moves, looks, laid-stands, old-counts, told_memory}

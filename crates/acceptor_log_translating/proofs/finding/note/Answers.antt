@@ -1,3 +1,4 @@
+-- Why `note` meets its contract.
 use Rattle.std.proofs.Common.{◌≡◌, true, [], ◌∷◌, ◌++◌, refl}
 use Rattle.acceptor_log_translating.specs.declared.finding.Found.{Found}
 use Rattle.acceptor_log_translating.proofs.FoundNext.{broken_more, found_in}

@@ -1,3 +1,4 @@
+-- Why `note_first` meets its clauses `noted` and `shorter`.
 use Rattle.std.proofs.Common.{length, ap, arith}
 use Rattle.std.proofs.lemmas.List.{length-append}
 use Rattle.acceptor_log_form.specs.Text.{block_text}

@@ -1,3 +1,4 @@
+-- Why `put_down` meets its contract.
 use Rattle.std.proofs.Common.{◌≡◌, ◌<◌, Some, length, refl, sym, subst, arith}
 use Rattle.std.specs.Prelude.{◌^◌, slice_get}
 use Rattle.std.proofs.lemmas.Option.{slice_get_read}

@@ -1,7 +1,8 @@
+-- Why `widen` meets its contract, and its loop over `rooms` keeps the invariant.
 use Rattle.std.proofs.Common.{◌∷◌, [], inl, inr, length, sym, ap, ◌∙◌, arith}
 use Rattle.std.specs.Prelude.{slice_get}
 use Rattle.std.proofs.lemmas.List.{length-append}
-use Rattle.acceptor_log_migrated.proofs.InOrder.{pushed_get}
+use Rattle.acceptor_log_old.proofs.InOrder.{pushed_get}
 use Rattle.acceptor_log_translating.proofs.finding.widen.Goals as goal
 
 pub loop-rooms-init : goal.loop-rooms-init

@@ -1,7 +1,7 @@
 -- What is found of the rooms that are named is all there is.
 use Rattle.std.proofs.Common.{◌<◌, ℕ, length, refl, sym, ap, subst, arith}
 use Rattle.acceptor_log_translating.specs.Translating.{IsMigratedText}
-use Rattle.acceptor_log_migrated.proofs.Rooms.{migrated-rooms}
+use Rattle.acceptor_log_old.proofs.Rooms.{migrated-rooms}
 use Rattle.acceptor_log_translating.proofs.Writable.{all_writable}
 use Rattle.acceptor_log_translating.proofs.translating.text_of.Goals as goal
 

@@ -1,6 +1,7 @@
+-- Why `write_room` meets its clause `added`.
 use Rattle.std.proofs.Common.{◌∙◌}
 use Rattle.acceptor_log_form.specs.Leaves.{kept_in}
-use Rattle.acceptor_log_migrated.specs.Migrated.{offer_in, offered, summary_of}
+use Rattle.acceptor_log_old.specs.Migrated.{offer_in, offered, summary_of}
 use Rattle.acceptor_log_translating.proofs.Written.{both_added, summary_same}
 use Rattle.acceptor_log_translating.proofs.translating.write_room.Goals as goal
 

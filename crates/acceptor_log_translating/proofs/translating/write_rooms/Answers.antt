@@ -1,7 +1,8 @@
+-- Why `write_rooms` meets its clause `added`, its loop over `room` keeps the invariant, and it may call `write_room`.
 use Rattle.std.proofs.Common.{◌≡◌, ℕ, ◌+◌, Some, List, length, refl, sym, ap, subst, arith}
 use Rattle.std.specs.Prelude.{slice_get}
 use Rattle.std.proofs.lemmas.Option.{slice_get_read}
-use Rattle.acceptor_log_migrated.specs.Migrated.{migrated_below}
+use Rattle.acceptor_log_old.specs.Migrated.{migrated_below}
 use Rattle.acceptor_log_translating.specs.Translating.{IsAdded}
 use Rattle.acceptor_log_translating.proofs.Written.{room_added, nothing_added}
 use Rattle.acceptor_log_translating.proofs.translating.write_rooms.Goals as goal

@@ -1,6 +1,6 @@
 use Rattle.std.proofs.Common.{◌≤◌, ◌+◌, List, length}
 use Rattle.acceptor_log_form.specs.declared.record.Record.{Record}
-use Rattle.acceptor_log_migrated.specs.Migrated.{migrated_below}
+use Rattle.acceptor_log_old.specs.Migrated.{migrated_below}
 use Rattle.acceptor_log_translating.specs.Translating.{IsAdded}
 use Rattle.acceptor_log_translating.specs.Found.{EachIsFound}
 use Rattle.acceptor_log_translating.proofs.translating.write_rooms.Given as goal

@@ -1,8 +1,9 @@
+-- Why `write_summary` meets its clause `added`.
 use Rattle.std.proofs.Common.{◌≡◌, ◌++◌, ◌∷◌, [], false, refl}
 use Rattle.std.specs.Prelude.{◌==◌, ◌&&◌}
 use Rattle.acceptor_log_form.specs.declared.record.Record.{Record}
 use Rattle.acceptor_log_form.specs.declared.record.Record.TheVariants.{Summary}
-use Rattle.acceptor_log_migrated.specs.Migrated.{told}
+use Rattle.acceptor_log_old.specs.Migrated.{told}
 use Rattle.acceptor_log_translating.proofs.Written.{summary_added}
 use Rattle.acceptor_log_translating.proofs.translating.write_summary.Goals as goal
 

@@ -1,6 +1,7 @@
+-- Why `written` meets its clauses `text` and `fewer`.
 use Rattle.std.proofs.Common.{◌≡◌, ℕ, List, length, sym, ap, ◌∙◌, subst, arith}
 use Rattle.acceptor_log_form.specs.Text.{header_text, header_size}
-use Rattle.acceptor_log_migrated.specs.Migrated.{migrated_below}
+use Rattle.acceptor_log_old.specs.Migrated.{migrated_below}
 use Rattle.acceptor_log_translating.specs.Translating.{IsAdded}
 use Rattle.acceptor_log_translating.proofs.Written.{gate_added, gate_at}
 use Rattle.acceptor_log_translating.proofs.translating.written.Goals as goal

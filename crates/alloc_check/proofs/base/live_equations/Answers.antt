@@ -1,3 +1,4 @@
+-- Why `live_equations` meets its clauses `live` and `accepted`.
 use Rattle.alloc_check.proofs.Live.{live_rows, live_accepted}
 use Rattle.alloc_check.proofs.base.live_equations.Goals as goal
 

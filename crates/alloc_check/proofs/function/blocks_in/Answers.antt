@@ -1,3 +1,4 @@
+-- Why the loop of `blocks_in` over `instruction` keeps the invariant.
 use Rattle.std.proofs.Common.{[], ◌∷◌, ◌++◌, ap, ◌∙◌}
 use Rattle.std.specs.Prelude.{map, take}
 use Rattle.alloc_check.specs.Slots.{block_in}

@@ -1,3 +1,4 @@
+-- Why `sources_of` meets its contract, and its loop over `step` keeps the invariant.
 use Rattle.std.proofs.Common.{◌≤◌, length, arith}
 use Rattle.alloc_check_blocks.proofs.Sources.{noted, all_noted}
 use Rattle.alloc_check_blocks.proofs.origins.sources_of.Goals as goal

@@ -1,3 +1,4 @@
+-- Why `push_demands` meets its contract, and its loop over `equation` keeps the invariant.
 use Rattle.std.proofs.Common.{◌≡◌, ◌≤◌, ◌++◌, length, take, true, false, sym, ◌∙◌, subst, arith}
 use Rattle.std.specs.List.{list_any}
 use Rattle.std.proofs.lemmas.Bool.{not-true, not-false}

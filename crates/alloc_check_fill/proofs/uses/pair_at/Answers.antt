@@ -1,3 +1,4 @@
+-- Why `pair_at` meets its contract.
 use Rattle.std.proofs.Common.{◌<◌, ◌≤◌, length, sym, arith}
 use Rattle.std.proofs.lemmas.Option.{slice_get_past, slice_get-get_or}
 use Rattle.alloc_check_fill.proofs.Pairs.{pair_got, no_name, no_location}

@@ -1,3 +1,4 @@
+-- Why `push_each` meets its contract, and its loop over `k` keeps the invariant.
 use Rattle.std.proofs.Common.{◌≡◌, ◌≤◌, ◌++◌, length, sym, subst, arith}
 use Rattle.std.specs.Prelude.{map}
 use Rattle.std.proofs.lemmas.List.{append-nil, take_all}

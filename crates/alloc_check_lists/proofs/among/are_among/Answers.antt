@@ -1,3 +1,4 @@
+-- Why `are_among` meets its contract, and its loop over `other` keeps the invariant.
 use Rattle.std.proofs.Common.{◌≤◌, length, refl, arith}
 use Rattle.std.specs.Prelude.{Contains}
 use Rattle.alloc_check_lists.proofs.Each.{holds_on, not_all, all_of}

@@ -1,3 +1,4 @@
+-- Why the loop of `first_from` over `low` keeps the invariant.
 use Rattle.std.proofs.Common.{◌+◌, ◌-◌, ◌/◌, ◌≤◌, arith}
 use Rattle.alloc_check_lists.proofs.Searches.{go_up, go_down}
 use Rattle.alloc_check_lists.proofs.among.first_from.Goals as goal

@@ -1,6 +1,7 @@
+-- Why `place_of` meets its clauses `absent` and `found`.
 use Rattle.std.proofs.Common.{◌≡◌, ℕ, ◌<◌, ◌≤◌, length, get_or, false, true, arith}
 use Rattle.std.proofs.lemmas.Bool.{iff_false}
-use Rattle.alloc_check_rules.specs.declared.equation.Equation.{Equation}
+use Rattle.alloc_check_fill.specs.Equation.{Equation}
 use Rattle.alloc_check_fill.specs.Ranks.{rank}
 use Rattle.alloc_check_lists.proofs.Searches.{none_there, only_first}
 use Rattle.alloc_check_lists.proofs.among.place_of.Goals as goal

@@ -1,6 +1,7 @@
+-- Why `hold_at_entry` meets its contract, and its loop over `equation` keeps the invariant.
 use Rattle.std.proofs.Common.{◌≤◌, length, refl, arith}
 use Rattle.std.proofs.lemmas.Bool.{iff_false}
-use Rattle.alloc_check_rules.specs.Rules.{HoldsAtEntry}
+use Rattle.alloc_check_fill.specs.Rules.{HoldsAtEntry}
 use Rattle.alloc_check_lists.proofs.Each.{holds_on, not_all, all_of}
 use Rattle.alloc_check_lists.proofs.entry.hold_at_entry.Goals as goal
 

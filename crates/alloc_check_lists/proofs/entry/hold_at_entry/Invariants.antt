@@ -1,4 +1,4 @@
-use Rattle.alloc_check_rules.specs.Rules.{HoldsAtEntry}
+use Rattle.alloc_check_fill.specs.Rules.{HoldsAtEntry}
 use Rattle.alloc_check_lists.proofs.Each.{HoldsBelow}
 use Rattle.alloc_check_lists.proofs.entry.hold_at_entry.Given as goal
 

@@ -1,6 +1,7 @@
+-- Why `is_parameter` meets its contract, and its loop over `k` keeps the invariant.
 use Rattle.std.proofs.Common.{◌≡◌, ◌≤◌, length, sym, arith}
 use Rattle.std.proofs.lemmas.Bool.{iff_false}
-use Rattle.alloc_check_rules.specs.Pairs.{equations_of}
+use Rattle.alloc_check_fill.specs.Pairs.{equations_of}
 use Rattle.alloc_check_lists.proofs.Each.{holds_on_got, all_of, found_among, not_among}
 use Rattle.alloc_check_fill.proofs.Pairs.{pairs_few}
 use Rattle.alloc_check_lists.proofs.entry.is_parameter.Goals as goal

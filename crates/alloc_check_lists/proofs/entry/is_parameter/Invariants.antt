@@ -1,5 +1,5 @@
 use Rattle.std.proofs.Common.{◌≡◌}
-use Rattle.alloc_check_rules.specs.Pairs.{equations_of}
+use Rattle.alloc_check_fill.specs.Pairs.{equations_of}
 use Rattle.alloc_check_lists.proofs.Each.{HoldsBelow}
 use Rattle.alloc_check_lists.proofs.entry.is_parameter.Given as goal
 

@@ -1,8 +1,9 @@
+-- Why `is_in_order` meets its contract.
 use Rattle.std.proofs.Common.{◌<◌, ◌≤◌, ◌^◌, length, sym, ◌∙◌, arith}
 use Rattle.std.specs.Prelude.{All}
 use Rattle.std.proofs.lemmas.Bool.{leb-true}
 use Rattle.std.proofs.lemmas.List.Elements.{recursion_from_All}
-use Rattle.alloc_check_rules.specs.Rules.{EquationFits}
+use Rattle.alloc_check_fill.specs.Rules.{EquationFits}
 use Rattle.alloc_check_lists.proofs.Ranks.{rise_ranks}
 use Rattle.alloc_check_lists.proofs.order.is_in_order.Goals.{then-equations-from, else-equations-from}
 use Rattle.alloc_check_lists.proofs.order.is_in_order.Goals as goal

@@ -1,3 +1,4 @@
+-- Why `leading` meets its contract, and its loop over `n` keeps the invariant.
 use Rattle.std.proofs.Common.{◌≡◌, ◌+◌, length, Some, refl, subst}
 use Rattle.std.specs.Prelude.{slice_get}
 use Rattle.std.proofs.lemmas.Option.{slice_get_read}

@@ -1,3 +1,4 @@
+-- Why `ends_with` meets its contract.
 use Rattle.std.proofs.Common.{ap, ◌∙◌}
 use Rattle.alloc_check_live.specs.Walks.{is_that}
 use Rattle.alloc_check_live.proofs.Risings.{last_tells}

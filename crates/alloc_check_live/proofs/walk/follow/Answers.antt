@@ -1,3 +1,4 @@
+-- Why `follow` meets its contract, and its loop over `node` keeps the invariant.
 use Rattle.std.proofs.Common.{◌≡◌, length, subst, arith}
 use Rattle.std.proofs.lemmas.List.{nil_from_length}
 use Rattle.alloc_check_live.proofs.Walks.{Walking, walking_first, walking_after, left_over-falls, walking_done}

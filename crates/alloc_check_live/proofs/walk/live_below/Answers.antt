@@ -1,3 +1,4 @@
+-- Why `live_below` meets its contract, and it may call `follow`.
 use Rattle.std.proofs.Common.{◌≡◌, subst, arith}
 use Rattle.alloc_check_live.specs.Liveness.{used_of}
 use Rattle.alloc_check_live.specs.Lists.{AreLiveBelow}

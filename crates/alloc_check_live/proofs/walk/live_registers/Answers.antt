@@ -1,3 +1,4 @@
+-- Why `live_registers` meets its contract.
 use Rattle.std.proofs.Common.{arith}
 use Rattle.alloc_check_live.proofs.Walks.{live_all}
 use Rattle.alloc_check_live.proofs.walk.live_registers.Goals as goal

@@ -1,3 +1,4 @@
+-- Why `origins_hold` meets its contract.
 use Rattle.alloc_check_rules.proofs.Locations.{value_moves}
 use Rattle.alloc_check_rules.proofs.law.origins_hold.Goals as goal
 

@@ -1,3 +1,4 @@
+-- Why `put_in_order` meets its contract.
 use Rattle.alloc_check_verdict.proofs.carried.put_in_order.Goals as goal
 
 pub returns-else-not-rise : goal.returns-else-not-rise

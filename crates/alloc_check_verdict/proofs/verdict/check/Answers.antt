@@ -1,7 +1,8 @@
+-- Why `check` meets its contract.
 use Rattle.std.proofs.Common.{length}
-use Rattle.rtl_passes.proofs.Verdicts.{told-exact}
+use Rattle.rtl_passes_marks.proofs.Verdicts.{told-exact}
 use Rattle.alloc_check_rules.specs.Rules.{IsRightAt}
-use Rattle.alloc_check_filled.specs.Allocated.{filled, HasForm}
+use Rattle.alloc_check_proof.specs.Allocated.{filled, HasForm}
 use Rattle.alloc_check_verdict.proofs.verdict.check.Goals as goal
 
 pub returns : goal.returns

@@ -1,9 +1,10 @@
+-- Why `why` meets its contract.
 use Rattle.std.proofs.Common.{◌≡◌, length, rules}
 use Rattle.std.specs.Option.{option_map}
 use Rattle.lang_base.specs.declared.fault.Fault.TheVariants.{Node}
-use Rattle.rtl_passes.proofs.Verdicts.{tells-lowest}
+use Rattle.rtl_passes_marks.proofs.Verdicts.{tells-lowest}
 use Rattle.alloc_check_rules.specs.Rules.{IsRightAt}
-use Rattle.alloc_check_filled.specs.Allocated.{filled, HasForm}
+use Rattle.alloc_check_proof.specs.Allocated.{filled, HasForm}
 use Rattle.alloc_check_verdict.proofs.verdict.why.Goals as goal
 
 pub returns : goal.returns

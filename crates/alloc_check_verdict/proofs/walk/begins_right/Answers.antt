@@ -1,3 +1,4 @@
+-- Why `begins_right` meets its contract.
 use Rattle.std.proofs.Common.{◌≡◌, arith}
 use Rattle.alloc_check_verdict.proofs.walk.begins_right.Goals as goal
 

@@ -1,3 +1,4 @@
+-- Why `go_back` meets its contract, and it may call `take_behind`, `is_marked` and `is_enough`.
 use Rattle.std.proofs.Common.{◌≡◌, ◌<◌, [], false, true, sym, ◌∙◌, subst, arith, length}
 use Rattle.std.specs.Prelude.{◌↔◌, All, Contains, IsTrue}
 use Rattle.std.proofs.lemmas.Bool.{iff_false}
@@ -5,10 +6,10 @@ use Rattle.std.proofs.lemmas.List.{get_or_default}
 use Rattle.std.proofs.lemmas.Option.{slice_get_within}
 use Rattle.alloc_check_rules.specs.Pairs.{successors_of}
 use Rattle.alloc_check_rules.specs.Rules.{equations_at}
-use Rattle.alloc_check_fill.specs.Fill.{needed}
-use Rattle.alloc_check_fill.specs.Sets.{SameSet}
-use Rattle.alloc_check_fill.proofs.Blocks.{same_through}
-use Rattle.alloc_check_filled.specs.Allocated.{filled}
+use Rattle.alloc_check_proof.specs.Fill.{needed}
+use Rattle.alloc_check_proof.specs.Sets.{SameSet}
+use Rattle.alloc_check_proof.proofs.Blocks.{same_through}
+use Rattle.alloc_check_proof.specs.Allocated.{filled}
 use Rattle.alloc_check_lists.specs.Ranks.{RiseFrom}
 use Rattle.alloc_check_verdict.specs.Right.{BeginsRight}
 use Rattle.alloc_check_verdict.specs.Walk.{found_in}

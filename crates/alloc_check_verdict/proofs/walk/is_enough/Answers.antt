@@ -1,3 +1,4 @@
+-- Why `is_enough` meets its contract.
 use Rattle.std.proofs.lemmas.Bool.{both_ways}
 use Rattle.alloc_check_verdict.proofs.walk.is_enough.Goals as goal
 

@@ -1,8 +1,9 @@
+-- Why `lowest_wrong` meets its contract, its loop over `n` keeps the invariant, and it may call `go_back`.
 use Rattle.std.proofs.Common.{◌≡◌, suc, ◌-◌, ◌<◌, ◌≤◌, [], length, replicate, drop, sym, ap, ◌∙◌, subst, arith}
 use Rattle.std.proofs.lemmas.Bool.{iff_false}
 use Rattle.rtl_passes_marks.specs.Handing.{spread_on}
 use Rattle.alloc_check_rules.specs.Rules.{IsRightAt}
-use Rattle.alloc_check_filled.specs.Allocated.{filled}
+use Rattle.alloc_check_proof.specs.Allocated.{filled}
 use Rattle.alloc_check_verdict.specs.Walk.{IsSaid, IsKnownFrom}
 use Rattle.alloc_check_verdict.proofs.Known.{rows_said, known_first, marked_rises}
 use Rattle.alloc_check_verdict.proofs.Lowest.{tells_right, tells_wrong, tells_last, take_all}

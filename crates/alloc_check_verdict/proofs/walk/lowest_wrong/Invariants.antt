@@ -1,6 +1,6 @@
 use Rattle.std.proofs.Common.{◌≤◌, length}
 use Rattle.alloc_check_rules.specs.Rules.{IsRightAt}
-use Rattle.alloc_check_filled.specs.Allocated.{filled}
+use Rattle.alloc_check_proof.specs.Allocated.{filled}
 use Rattle.alloc_check_verdict.specs.Walk.{IsKnownFrom, TellsFrom}
 use Rattle.alloc_check_verdict.proofs.walk.lowest_wrong.Given as goal
 

@@ -1,3 +1,4 @@
+-- Why `take_behind` meets its clause `equations`.
 use Rattle.alloc_check_verdict.specs.Walk.{found_in, stands_at}
 use Rattle.alloc_check_verdict.proofs.Taken.{behind_one}
 use Rattle.alloc_check_verdict.proofs.walk.take_behind.Goals as goal

@@ -1,11 +1,12 @@
+-- Why `told_before` meets its clauses `keeps` and `needed`.
 use Rattle.std.proofs.Common.{◌≡◌, Bool, true, false, List, refl, sym, ◌∙◌}
 use Rattle.rtl_language.specs.declared.instruction.Instruction.{Instruction}
 use Rattle.ltl.specs.declared.block.Block.{Block}
 use Rattle.alloc_check_rules.specs.declared.equation.Equation.{Equation}
 use Rattle.alloc_check_rules.specs.Pairs.{change_of}
-use Rattle.alloc_check_fill.specs.Fill.{needed}
-use Rattle.alloc_check_fill.specs.Needed.{Keeps, IsNeeded}
-use Rattle.alloc_check_fill.proofs.Blocks.{broken_none}
+use Rattle.alloc_check_proof.specs.Fill.{needed}
+use Rattle.alloc_check_proof.specs.Needed.{Keeps, IsNeeded}
+use Rattle.alloc_check_proof.proofs.Blocks.{broken_none}
 use Rattle.alloc_check_verdict.proofs.walk.told_before.Goals as goal
 
 kept : (i : Instruction) (b : Block) (es found : List Equation) (keeps : Bool) → keeps ≡ true → IsNeeded i b es found keeps → Keeps i b es × (found ≡ needed i b es)

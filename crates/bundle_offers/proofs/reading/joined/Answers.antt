@@ -2,7 +2,7 @@
 use Rattle.std.proofs.Common.{sym, subst}
 use Rattle.constprop_check_rules.specs.Rules.{IsPropagated}
 use Rattle.cse_check_rules.specs.Rules.{IsEliminated}
-use Rattle.alloc_check_filled.specs.Allocated.{IsAllocated}
+use Rattle.bundle_reading.specs.Allocated.{IsAllocated}
 use Rattle.linearize_check_proof.specs.Rules.{IsLaidOut}
 use Rattle.bundle_reading.specs.Read as read
 use Rattle.bundle_reading.proofs.Readings.{each_found, four_read}

@@ -1,3 +1,4 @@
+-- Why `one_bundle` meets its contract.
 use Rattle.bundle_reading.proofs.OneBundle.{has_one_bundle}
 use Rattle.bundle_reading.proofs.laws.one_bundle.Goals as goal
 

@@ -1,3 +1,4 @@
+-- Why `are_parts` meets its clauses `form` and `short`.
 use Rattle.bundle_reading.proofs.Blocks.{all_short, each_byte}
 use Rattle.bundle_reading.proofs.writing.are_parts.Goals as goal
 

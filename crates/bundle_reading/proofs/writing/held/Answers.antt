@@ -1,3 +1,4 @@
+-- Why `held` meets its clause `bytes`.
 use Rattle.std.proofs.Common.{sym, subst}
 use Rattle.bundle_form.specs.Form.{AreBytes}
 use Rattle.bundle_reading.proofs.Blocks.{each_byte}

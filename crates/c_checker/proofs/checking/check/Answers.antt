@@ -1,3 +1,4 @@
+-- Why `check` meets its clauses `ok` and `program`, and it may call `new`.
 use Rattle.std.proofs.Common.{rules, ◌≡◌, [], map, Some}
 use Rattle.std.specs.Prelude.{codes}
 use Rattle.std.specs.Option.{option_map}

@@ -1,3 +1,4 @@
+-- Why `take_function` meets its clause `err`.
 use Rattle.std.proofs.Common.{rules, ◌≡◌, [], Some, map, length, subst}
 use Rattle.std.proofs.lemmas.Result.{err_from_is_err_and}
 use Rattle.c_syntax.specs.Views.{function_tree}

@@ -1,3 +1,4 @@
+-- Why `take_prototype` meets its clause `err`.
 use Rattle.std.proofs.Common.{rules, ◌≡◌, [], None, subst}
 use Rattle.std.proofs.lemmas.Result.{err_from_is_err_and}
 use Rattle.c_checker_rules.specs.Told.{Tells}

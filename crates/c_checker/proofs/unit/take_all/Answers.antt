@@ -1,3 +1,4 @@
+-- Why `take_all` meets its clause `err`, and its loop over `declaration` keeps the invariant.
 use Rattle.std.proofs.lemmas.Result.{err_from_is_err_and}
 use Rattle.c_checker.proofs.Walking.{taken_on, told_on}
 use Rattle.c_checker.proofs.unit.take_all.Goals as goal

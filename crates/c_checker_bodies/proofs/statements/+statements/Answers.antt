@@ -1,3 +1,4 @@
+-- Why the loop of `+statements` over `statement` keeps the invariant, and it may call `check_statement`.
 use Rattle.std.proofs.Common.{rules, suc, ◌+◌, ◌≤◌, length, sym, ap, subst, ◌∙◌}
 use Rattle.c_syntax.specs.Heights.{statement_height, statements_height}
 use Rattle.c_syntax.specs.Trees as T

@@ -1,3 +1,4 @@
+-- Why `check_global` meets its clause `err`.
 use Rattle.std.proofs.lemmas.Result.{err_from_is_err_and}
 use Rattle.c_syntax.specs.Views.{global_tree}
 use Rattle.c_checker_rules.specs.Globals.{global_name_faults, initials_faults, initials_of, with_global}

@@ -1,3 +1,4 @@
+-- Why `check_initial` meets its contract.
 use Rattle.c_syntax.specs.Views.{initial_tree}
 use Rattle.c_checker_declarations.proofs.Constants.{fault_told}
 use Rattle.c_checker_declarations.proofs.initial.check_initial.Goals as goal

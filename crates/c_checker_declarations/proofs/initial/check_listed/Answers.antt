@@ -1,3 +1,4 @@
+-- Why `check_listed` meets its clause `err`.
 use Rattle.std.proofs.lemmas.Result.{err_from_is_err_and}
 use Rattle.c_checker_declarations.proofs.Listed.{stops}
 use Rattle.c_checker_declarations.proofs.initial.check_listed.Goals as goal

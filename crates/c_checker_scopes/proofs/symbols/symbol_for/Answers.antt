@@ -1,3 +1,4 @@
+-- Why `symbol_for` meets its clauses `named` and `table`.
 use Rattle.std.proofs.Common.{ap, subst, sym, ◌∙◌, inl, inr}
 use Rattle.std.proofs.lemmas.List.{length-map}
 use Rattle.c_checker_scopes.specs.Table.{names_of, IsTable}

@@ -1,3 +1,4 @@
+-- Why `conditional_of` meets its contract.
 use Rattle.std.proofs.Common.{◌++◌}
 use Rattle.std.proofs.lemmas.Result.{err_from_is_err_and, IfOk-weaker, IfErr-weaker, MatchResult-from_both}
 use Rattle.c_checker_rules.specs.Expressions.{expression_faults}

@@ -1,7 +1,8 @@
+-- Why `character` meets its contract.
 use Rattle.std.proofs.Common.{sym, refl, ap, ◌∙◌}
-use Rattle.c_lexer_parts.specs.Lookups.{character_of}
+use Rattle.c_lexer_lexemes.specs.Lookups.{character_of}
 use Rattle.c_lexer.proofs.CharacterFronts.{character_token, bad_character}
-use Rattle.c_lexer_parts.proofs.Starts.{found}
+use Rattle.c_lexer_lexemes.proofs.Starts.{found}
 use Rattle.c_lexer.proofs.characters.character.Goals as goal
 
 pub returns-in-Some : goal.returns-in-Some

@@ -1,3 +1,4 @@
+-- Why `block_comment` meets its contract.
 use Rattle.std.proofs.Common.{List, ℕ, length, refl, subst, arith, length-drop}
 use Rattle.std.proofs.lemmas.List.{take_rest}
 use Rattle.c_lexer.specs.Closings.{NoClose, IsFirstClose}

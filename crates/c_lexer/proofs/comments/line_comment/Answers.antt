@@ -1,3 +1,4 @@
+-- Why `line_comment` meets its contract.
 use Rattle.std.proofs.Common.{List, ℕ, subst, arith, length-drop}
 use Rattle.std.proofs.lemmas.List.{take_rest}
 use Rattle.c_lexer.proofs.CommentFronts.{IsLine, line_gap}

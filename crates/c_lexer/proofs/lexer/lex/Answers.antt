@@ -1,3 +1,4 @@
+-- Why `lex` meets its clauses `only` and `first`.
 use Rattle.c_lexer.proofs.Lexed.{only_tokens, first_fault}
 use Rattle.c_lexer.proofs.lexer.lex.Goals as goal
 

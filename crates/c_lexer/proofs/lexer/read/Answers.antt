@@ -1,3 +1,4 @@
+-- Why the loop of `read` over `at` keeps the invariant.
 use Rattle.std.proofs.Common.{List, ◌++◌, ◌∷◌, [], ◌+◌, sym, subst, drop}
 use Rattle.c_syntax.specs.declared.token.Token.{Token}
 use Rattle.c_lexer.specs.Texts.{ReadsTo}

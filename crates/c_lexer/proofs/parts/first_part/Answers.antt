@@ -1,3 +1,4 @@
+-- Why `first_part` meets its contract.
 use Rattle.std.proofs.Common.{sym}
 use Rattle.c_lexer.proofs.CommentFronts.{white_gap}
 use Rattle.c_lexer.proofs.parts.first_part.Goals as goal

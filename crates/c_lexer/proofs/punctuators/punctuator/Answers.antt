@@ -1,6 +1,7 @@
+-- Why `punctuator` meets its contract.
 use Rattle.std.proofs.Common.{sym, refl, ◌∙◌}
-use Rattle.c_lexer_parts.specs.Lookups.{longest_of}
-use Rattle.c_lexer_parts.proofs.PunctuatorFronts.{punctuator_token, bad_byte}
+use Rattle.c_lexer_lexemes.specs.Lookups.{longest_of}
+use Rattle.c_lexer_lexemes.proofs.PunctuatorFronts.{punctuator_token, bad_byte}
 use Rattle.c_lexer.proofs.punctuators.punctuator.Goals as goal
 
 pub returns-in-Some : goal.returns-in-Some

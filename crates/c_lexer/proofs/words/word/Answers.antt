@@ -1,5 +1,6 @@
+-- Why `word` meets its contract.
 use Rattle.std.proofs.Common.{refl}
-use Rattle.c_lexer_parts.proofs.WordFronts.{begins_with, word_token, bad_number}
+use Rattle.c_lexer_lexemes.proofs.WordFronts.{begins_with, word_token, bad_number}
 use Rattle.c_lexer.proofs.words.word.Goals as goal
 
 pub returns-in-Some : goal.returns-in-Some

@@ -1,5 +1,5 @@
 use Rattle.std.proofs.Common.{◌≡◌, ℕ, ◌-◌, ◌<◌, ◌≤◌, true, length, get_or}
-use Rattle.c_lexer_parts.specs.Bytes.{is_word_byte}
+use Rattle.c_lexer_lexemes.specs.Bytes.{is_word_byte}
 use Rattle.c_lexer.proofs.words.word_len.Given as goal
 
 abbrev pub invariant-loop-n : goal.invariant-loop-n

@@ -1,3 +1,4 @@
+-- Why `act` meets its clause `meaning`.
 use Rattle.c_meaning.proofs.acting.act.Goals as goal
 
 pub returns-in-If-clause-meaning : goal.returns-in-If-clause-meaning

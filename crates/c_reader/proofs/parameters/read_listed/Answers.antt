@@ -1,3 +1,4 @@
+-- Why `read_listed` meets its clauses `err` and `ok`.
 use Rattle.std.proofs.Common.{◌≡◌, true, false, length, rules}
 use Rattle.std.proofs.lemmas.Result.{err_from_is_err_and}
 use Rattle.c_syntax.specs.declared.punctuator.Punctuator.TheVariants.{Comma}

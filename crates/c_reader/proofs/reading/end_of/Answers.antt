@@ -1,3 +1,4 @@
+-- Why `end_of` meets its contract.
 use Rattle.std.proofs.Common.{◌≡◌, ◌-◌, length, Some, sym, ap, ◌∙◌, rules}
 use Rattle.std.specs.Prelude.{slice_get}
 use Rattle.c_reader.proofs.Ends.{end_at, last_end}

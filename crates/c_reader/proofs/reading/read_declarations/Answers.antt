@@ -1,3 +1,4 @@
+-- Why `read_declarations` meets its clauses `err` and `ok`.
 use Rattle.std.proofs.Common.{◌≡◌, true, false, length, map, rules}
 use Rattle.std.proofs.lemmas.List.{map-append}
 use Rattle.c_syntax.specs.Heights.{highest}

@@ -1,3 +1,4 @@
+-- Why `read_is_spelled` meets its contract.
 use Rattle.c_reader_expression_laws.proofs.Laws.{expression_takes}
 use Rattle.c_reader_expression_laws.proofs.grammar.read_is_spelled.Goals as goal
 

@@ -1,3 +1,4 @@
+-- Why `+expressions` meets what its body asks for.
 use Rattle.std.proofs.Common.{◌≡◌, ◌-◌, ◌∙◌, arith}
 use Rattle.std.proofs.lemmas.Result.{err_from_is_err_and, IfOk-weaker, IfErr-weaker}
 use Rattle.c_syntax.specs.Views.{expression_tree}

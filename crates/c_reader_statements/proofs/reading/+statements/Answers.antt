@@ -1,3 +1,4 @@
+-- Why `+statements` meets what its body asks for.
 use Rattle.std.proofs.Common.{◌≡◌, true, false, length, map, rules}
 use Rattle.std.proofs.lemmas.List.{map-append}
 use Rattle.std.proofs.lemmas.Result.{err_from_is_err_and}

@@ -1,3 +1,4 @@
+-- Why `block_of` meets its contract.
 use Rattle.std.proofs.Common.{ap, ◌∙◌}
 use Rattle.c_syntax.specs.Trees as T
 use Rattle.c_syntax.specs.Views.{statements_tree}

@@ -1,3 +1,4 @@
+-- Why `accept` meets its clauses `only`, `refused` and `accepted`.
 use Rattle.std.proofs.Common.{ap, subst, ◌∙◌, sym}
 use Rattle.std.proofs.lemmas.Result.{err_from_is_err_and}
 use Rattle.c_syntax.specs.Declarations.{IsUnit}

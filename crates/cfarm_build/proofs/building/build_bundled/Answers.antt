@@ -3,12 +3,12 @@ use Rattle.std.proofs.Common.{◌≡◌, ◌≤◌, ◌<◌, length, sym, ap, su
 use Rattle.std.proofs.lemmas.List.{length-map}
 use Rattle.std.specs.Arc.{arc_value}
 use Rattle.std.specs.List.{AllByRecursion, AllZip}
-use Rattle.farm_nodes_linked.specs.Alike.{HaveCounted}
-use Rattle.farm_nodes_passes.specs.Fours.{fours_of}
-use Rattle.farm_nodes_linked.specs.Learned.{learned_by}
+use Rattle.cfarm_build_turns.specs.Alike.{HaveCounted}
+use Rattle.cfarm_build_offers.specs.Fours.{fours_of}
+use Rattle.cfarm_build_turns.specs.Learned.{learned_by}
 use Rattle.farm_nodes_source.specs.declared.source.Source.{Source}
-use Rattle.cfarm_build_result.specs.Neighbours.{EachTwo}
-use Rattle.cfarm_build_result.proofs.Zips.{as_long}
+use Rattle.cfarm_build_turns.specs.Neighbours.{EachTwo}
+use Rattle.cfarm_build_turns.proofs.Zips.{as_long}
 use Rattle.cfarm_build_turns.specs.Nodes.{HasFewFunctions, Meets}
 use Rattle.cfarm_build_turns.proofs.Turning.{Turns, failed_same, have_met_fit, ran, share, share_met, share_such}
 use Rattle.cfarm_build.proofs.Made.{built_so, refused_so}

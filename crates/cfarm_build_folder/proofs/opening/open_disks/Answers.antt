@@ -1,3 +1,4 @@
+-- Why `open_disks` meets its clauses `refused`, `made` and `others`, and its loop over `node` keeps the invariant.
 use Rattle.std.proofs.Common.{length, ap, refl, sym, subst, ◌∙◌, arith}
 use Rattle.std.proofs.lemmas.List.{length_push}
 use Rattle.cfarm_options.specs.Paths.{journal_path, old_journal_path}

@@ -1,8 +1,8 @@
 -- One node more that links all functions.
 use Rattle.std.proofs.Common.{sym, subst, take, ◌+◌, ◌∙◌}
 use Rattle.std.proofs.lemmas.List.Elements.{All-from_recursion, All-more, recursion_from_All}
-use Rattle.farm_nodes_linked.specs.Learned.{learned_by, IsUndecided}
-use Rattle.farm_nodes_linked.proofs.Wanting.{seen_at}
+use Rattle.cfarm_build_result.specs.Learned.{learned_by, IsUndecided}
+use Rattle.cfarm_build_result.proofs.Wanting.{seen_at}
 use Rattle.cfarm_build_result.specs.Node.{node}
 use Rattle.cfarm_build_linking.proofs.linking.all_link.Goals as goal
 

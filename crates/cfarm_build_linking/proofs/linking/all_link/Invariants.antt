@@ -1,6 +1,6 @@
 use Rattle.std.proofs.Common.{take}
 use Rattle.std.specs.List.{AllByRecursion}
-use Rattle.farm_nodes_linked.specs.Learned.{learned_by, IsUndecided}
+use Rattle.cfarm_build_result.specs.Learned.{learned_by, IsUndecided}
 use Rattle.cfarm_build_linking.proofs.linking.all_link.Given as goal
 
 -- the first nodes link all functions

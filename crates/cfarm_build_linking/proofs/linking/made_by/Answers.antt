@@ -5,17 +5,17 @@ use Rattle.std.specs.String.{string_bytes}
 use Rattle.std.proofs.lemmas.List.{length-map}
 use Rattle.c_checker_rules.specs.Checked.{program_tree}
 use Rattle.cminor_lowering.specs.Programs.{low}
-use Rattle.linker.specs.Numbers.{function_of_link_error}
-use Rattle.farm_nodes_linked.specs.Learned.{learned_by, IsUndecided}
-use Rattle.farm_nodes_linked.specs.Offered.{linked_offers}
-use Rattle.farm_nodes_linked.specs.Refused.{IsRefusedTo}
-use Rattle.farm_nodes_bundled.specs.Bundled.{LinksLearned}
+use Rattle.cfarm_build_result.specs.Numbers.{function_of_link_error}
+use Rattle.cfarm_build_result.specs.Learned.{learned_by, IsUndecided}
+use Rattle.cfarm_build_result.specs.Offered.{linked_offers}
+use Rattle.cfarm_build_result.specs.Refused.{IsRefusedTo}
+use Rattle.cfarm_build_result.specs.Bundled.{LinksLearned}
 use Rattle.rtlgen_definition.specs.Gen.{gen}
 use Rattle.cfarm_build_linking.specs.Built.{IsBundledOf, IsReportOf}
 use Rattle.cfarm_build_result.specs.Node.{node}
 use Rattle.cfarm_build_linking.proofs.Bundling.{bundled_so, if_some}
 use Rattle.cfarm_build_linking.specs.Refused.{IsToldOf}
-use Rattle.farm_nodes_linked.proofs.Wanting.{seen_at}
+use Rattle.cfarm_build_result.proofs.Wanting.{seen_at}
 use Rattle.cfarm_build_result.proofs.Learning.{all_at, all_mapped}
 use Rattle.cfarm_build_linking.proofs.Firsts as firsts
 use Rattle.cfarm_build_linking.proofs.Neighbours.{all_link, all_same, two_seen}

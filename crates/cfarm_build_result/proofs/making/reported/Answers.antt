@@ -2,7 +2,7 @@
 use Rattle.std.proofs.Common.{ap, ◌∙◌}
 use Rattle.sha2.specs.Sha256.{sha256}
 use Rattle.serde_json.specs.Written.{compact_text}
-use Rattle.cfarm_report.specs.Report.{report_of}
+use Rattle.cfarm_build_result.specs.Report.{report_of}
 use Rattle.cfarm_build_result.proofs.making.reported.Goals as goal
 
 pub returns-in-Ok-report : goal.returns-in-Ok-report

@@ -1,6 +1,6 @@
 use Rattle.std.proofs.Common.{◌≡◌, ◌≤◌, take}
 use Rattle.std.specs.Prelude.{count_by, is_some}
-use Rattle.farm_nodes_linked.specs.Learned.{learned_by}
+use Rattle.farm_nodes_link.specs.Learned.{learned_by}
 use Rattle.cfarm_build_result.proofs.numbers.linked_functions.Given as goal
 
 -- of the first functions so many are linked

@@ -1,6 +1,6 @@
 -- One function more.
-use Rattle.farm_nodes_linked.specs.Learned.{learned_by, learned_four}
-use Rattle.farm_nodes_linked.proofs.Wanting.{seen_at, some_at}
+use Rattle.farm_nodes_link.specs.Learned.{learned_by, learned_four}
+use Rattle.farm_nodes_link.proofs.Wanting.{seen_at, some_at}
 use Rattle.cfarm_build_result.specs.Told.{function_names}
 use Rattle.cfarm_build_result.proofs.Learning.{at_place}
 use Rattle.cfarm_build_result.proofs.Numbering.{one_told}

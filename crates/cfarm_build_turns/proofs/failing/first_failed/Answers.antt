@@ -1,7 +1,7 @@
 -- One node further that did not fail.
 use Rattle.std.proofs.Common.{sym, ◌∙◌, arith}
 use native.Mathlib.Numerals.{unary_clauses}
-use Rattle.farm_nodes_node.specs.Held.{fault_in}
+use Rattle.farm_nodes_turn_node.specs.Held.{fault_in}
 use Rattle.cfarm_build_turns.proofs.Lowest.{none_here, none_left, one_here}
 use Rattle.cfarm_build_turns.proofs.failing.first_failed.Goals as goal
 

@@ -1,5 +1,5 @@
 use Rattle.std.proofs.Common.{◌≡◌, map, drop}
-use Rattle.farm_nodes_node.specs.Held.{fault_in}
+use Rattle.farm_nodes_turn_node.specs.Held.{fault_in}
 use Rattle.cfarm_build_turns.specs.Nodes.{lowest_failed}
 use Rattle.cfarm_build_turns.proofs.failing.first_failed.Given as goal
 

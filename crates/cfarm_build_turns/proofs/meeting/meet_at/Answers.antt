@@ -1,9 +1,9 @@
 -- Two of the nodes change, one on each side of the cut.
 use Rattle.std.proofs.Common.{◌≡◌, ◌<◌, ◌++◌, suc, None, length, set, sym, subst, ◌∙◌, arith}
 use Rattle.std.specs.List.{AllByRecursion, AllZip}
-use Rattle.farm_nodes_passes.specs.Fours.{fours_of}
-use Rattle.farm_nodes_linked.specs.Learned.{learned_by}
-use Rattle.farm_nodes_linked.proofs.Kept.{first_keeps, second_keeps}
+use Rattle.farm_nodes_turn_passes.specs.Fours.{fours_of}
+use Rattle.cfarm_build_result.specs.Learned.{learned_by}
+use Rattle.cfarm_build_result.proofs.Kept.{first_keeps, second_keeps}
 use Rattle.cfarm_build_turns.proofs.Counting.{all_counted, at_place, not_counted}
 use Rattle.cfarm_build_result.proofs.Zips.{all_back, all_front, all_get, append, one_set, set_first, set_second}
 use Rattle.cfarm_build_turns.specs.Nodes.{NodeStays}

@@ -1,8 +1,8 @@
 -- Meetings behind meetings.
 use Rattle.std.proofs.Common.{refl, sym, subst, arith}
 use Rattle.std.specs.Arc.{arc_value}
-use Rattle.farm_nodes_passes.specs.Fours.{fours_of}
-use Rattle.farm_nodes_linked.specs.Learned.{learned_by}
+use Rattle.farm_nodes_turn_passes.specs.Fours.{fours_of}
+use Rattle.cfarm_build_result.specs.Learned.{learned_by}
 use Rattle.cfarm_build_turns.proofs.Counting.{all_there, none_back, one_back}
 use Rattle.cfarm_build_result.proofs.Zips.{all_same, as_long, kept}
 use Rattle.cfarm_build_turns.specs.Nodes.{HasFewFunctions, NodeStays}

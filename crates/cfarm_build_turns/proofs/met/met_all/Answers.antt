@@ -2,10 +2,10 @@
 use Rattle.std.proofs.Common.{◌≡◌, None, map, refl, sym, ap, subst, ◌∙◌, true≢false}
 use Rattle.std.specs.Arc.{arc_value}
 use Rattle.std.specs.List.{AllByRecursion, AllZip}
-use Rattle.farm_nodes_linked.specs.Alike.{HaveCounted}
-use Rattle.farm_nodes_passes.specs.Fours.{fours_of}
-use Rattle.farm_nodes_linked.specs.Learned.{learned_by}
-use Rattle.farm_nodes_node.specs.Held.{fault_in}
+use Rattle.cfarm_build_result.specs.Alike.{HaveCounted}
+use Rattle.farm_nodes_turn_passes.specs.Fours.{fours_of}
+use Rattle.cfarm_build_result.specs.Learned.{learned_by}
+use Rattle.farm_nodes_turn_node.specs.Held.{fault_in}
 use Rattle.cfarm_build_result.specs.Neighbours.{EachTwo}
 use Rattle.cfarm_build_turns.specs.Nodes.{HasFewFunctions, NodeStays, lowest_failed}
 use Rattle.cfarm_build_turns.proofs.Lowest.{all_going}

@@ -1,9 +1,9 @@
 -- Rounds behind rounds.
 use Rattle.std.proofs.Common.{arith}
-use Rattle.farm_nodes_passes.specs.Texts.{pass_texts}
-use Rattle.farm_nodes_passes.specs.Fours.{fours_of}
-use Rattle.farm_nodes_node.specs.Waiting.{IsWaiting}
-use Rattle.farm_nodes_threads.proofs.Coming.{all_stay}
+use Rattle.farm_nodes_turn_passes.specs.Texts.{pass_texts}
+use Rattle.farm_nodes_turn_passes.specs.Fours.{fours_of}
+use Rattle.farm_nodes_turn_node.specs.Waiting.{IsWaiting}
+use Rattle.cfarm_build_faults.proofs.Coming.{all_stay}
 use Rattle.cfarm_build_turns.proofs.Turning.{turns_through}
 use Rattle.cfarm_build_turns.proofs.running.run_rounds.Goals as goal
 

@@ -1,7 +1,7 @@
 use Rattle.std.proofs.Common.{◌≤◌}
 use Rattle.std.specs.List.{AllByRecursion, AllZip}
-use Rattle.farm_nodes_node.specs.Asked.{MayBeAsked}
-use Rattle.farm_nodes_threads.specs.Nodes.{NodeCameBack}
+use Rattle.farm_nodes_turn_node.specs.Asked.{MayBeAsked}
+use Rattle.cfarm_build_faults.specs.Nodes.{NodeCameBack}
 use Rattle.cfarm_build_turns.proofs.running.run_rounds.Given as goal
 
 -- they come from those that began, and may take more turns

@@ -1,3 +1,4 @@
+-- Why `options_of` meets its clauses `none` and `some`.
 use Rattle.std.specs.Prelude.{◌≡◌, Some, None, codes}
 use Rattle.std.proofs.Common.{refl, sym, ◌∙◌}
 use Rattle.clap.specs.Words.{found_of}

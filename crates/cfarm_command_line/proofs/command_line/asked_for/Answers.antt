@@ -1,9 +1,10 @@
+-- Why `asked_for` meets its clauses `asks`, `none`, `right` and `refused`.
 use Rattle.std.specs.Prelude.{List, map, string_bytes}
 use Rattle.std.proofs.Common.{ap, subst, sym, ◌∙◌}
 use Rattle.std.proofs.lemmas.Option.{IfSome_then}
 use Rattle.std.proofs.lemmas.Result.{err_from_is_err_and}
 use Rattle.clap.specs.Words.{App, HasKind, Text, fault_of, is_simple, is_simple_and_free, subcommand_of, takes}
-use Rattle.cfarm_command_parts.specs.Words.{AsksNothingBy, IsAskedBy}
+use Rattle.cfarm_command_line_others.specs.Words.{AsksNothingBy, IsAskedBy}
 use Rattle.cfarm_command_line.proofs.command_line.asked_for.Goals as goal
 
 pub returns-clause-asks : goal.returns-clause-asks

@@ -1,5 +1,6 @@
+-- Why `asked_in` meets its clause `none`.
 use Rattle.clap.specs.Words.{found_of}
-use Rattle.cfarm_command_parts.proofs.Commands.{nothing_without_file}
+use Rattle.cfarm_command_line_others.proofs.Commands.{nothing_without_file}
 use Rattle.cfarm_command_line.proofs.command_line.asked_in.Goals as goal
 
 pub returns-in_default-clause-none : goal.returns-in_default-clause-none

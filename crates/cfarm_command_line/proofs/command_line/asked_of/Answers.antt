@@ -1,5 +1,6 @@
+-- Why `asked_of` meets its clauses `some` and `none`.
 use Rattle.clap.specs.Words.{found_of}
-use Rattle.cfarm_command_parts.proofs.Commands.{asked_from, nothing_from, nothing_without}
+use Rattle.cfarm_command_line_others.proofs.Commands.{asked_from, nothing_from, nothing_without}
 use Rattle.cfarm_command_line.proofs.command_line.asked_of.Goals as goal
 
 pub returns-in-Some-clause-some : goal.returns-in-Some-clause-some

@@ -1,4 +1,5 @@
-use Rattle.cfarm_command_parts.specs.Words.{build_app, check_app, emit_app, exec_app, fsck_app, interpret_app, judge_app, list_app, settle_app, show_app, sim_app, statuses_app, top_app, verify_app}
+-- Why `command` meets its contract.
+use Rattle.cfarm_command_line_others.specs.Words.{build_app, check_app, emit_app, exec_app, fsck_app, interpret_app, judge_app, list_app, settle_app, show_app, sim_app, statuses_app, top_app, verify_app}
 use Rattle.cfarm_command_line.proofs.command_line.command.Goals as goal
 
 pub returns : goal.returns

@@ -1,3 +1,4 @@
+-- Why `statuses` meets its contract.
 use Rattle.std.specs.Prelude.{true}
 use Rattle.std.proofs.Common.{ap, ◌∙◌}
 use Rattle.clap.specs.Simple.{app_of_fields, on_top}

@@ -1,3 +1,4 @@
+-- Why `emit` meets its clause `printed`.
 use Rattle.cfarm_emit.proofs.emitting.emit.Goals as goal
 
 pub returns-in-Err-clause-printed : goal.returns-in-Err-clause-printed

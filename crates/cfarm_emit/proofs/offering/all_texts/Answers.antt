@@ -1,3 +1,4 @@
+-- Why the loop of `all_texts` over `number` keeps the invariant.
 use Rattle.std.proofs.Common.{◌≡◌, sym, ap, ◌∙◌, subst}
 use native.Mathlib.Numerals.{unary_clauses}
 use Rattle.bundle_form.specs.Form.{TextsFit}

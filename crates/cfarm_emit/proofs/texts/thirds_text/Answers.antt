@@ -2,7 +2,7 @@
 use Rattle.std.proofs.Common.{ap, ◌∙◌}
 use Rattle.std.proofs.lemmas.Result.{IfOk-weaker}
 use Rattle.lang.specs.Form.{program_text}
-use Rattle.linker.specs.Chains.{names_of}
+use Rattle.chains.specs.Chains.{names_of}
 use Rattle.ltl.specs.Spelling.{spelling}
 use Rattle.cfarm_emit.proofs.Outputs.{thirds_names}
 use Rattle.cfarm_emit.proofs.texts.thirds_text.Goals as goal

@@ -1,3 +1,4 @@
+-- Why the loop of `thirds` over `number` keeps the invariant.
 use Rattle.std.proofs.Common.{◌<◌, length, arith}
 use native.Mathlib.Numerals.{unary_clauses}
 use Rattle.cfarm_emit.proofs.Outputs.{thirds_next}

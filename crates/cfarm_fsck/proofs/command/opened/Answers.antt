@@ -3,9 +3,9 @@ use Rattle.std.proofs.Common.{◌≡◌, ℕ, ◌<◌, List, length, sym, ap, su
 use Rattle.std.specs.Global.{Vec}
 use Rattle.paxos_core_world.specs.KeptPart.{KeptPart}
 use Rattle.acceptor_log_form.specs.declared.record.Record.{Record}
-use Rattle.farm_nodes_stored.specs.Nodes.{AreMade}
-use Rattle.farm_nodes_stored.specs.Read.{IsKeptPart}
-use Rattle.farm_nodes_function_rooms.specs.Kept.{AreSettled}
+use Rattle.farm_nodes_open_seats.specs.Nodes.{AreMade}
+use Rattle.farm_nodes_open_seats.specs.Read.{IsKeptPart}
+use Rattle.farm_nodes_open_seats.specs.Kept.{AreSettled}
 use Rattle.cfarm_fsck.proofs.Opening.{journals_refused, rooms_refused}
 use Rattle.cfarm_fsck.proofs.command.opened.Goals as goal
 

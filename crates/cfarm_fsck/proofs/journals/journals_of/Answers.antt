@@ -3,9 +3,9 @@ use Rattle.std.proofs.Common.{◌≡◌, ℕ, length, get_or, refl, sym, ap, sub
 use Rattle.std.proofs.lemmas.Option.{slice_get_read}
 use Rattle.acceptor_log_form.specs.declared.header.Header.{Header}
 use Rattle.acceptor_log_form.specs.declared.errors.LogError.{LogError}
-use Rattle.farm_nodes_disks.specs.Journals.{header_of}
-use Rattle.farm_nodes_stored.proofs.Nodes.{all_made, made_more}
-use Rattle.farm_nodes_seated.proofs.Told.{journals_fault, no_refusal, no_room}
+use Rattle.farm_nodes_open_journals.specs.Journals.{header_of}
+use Rattle.farm_nodes_open_seats.proofs.Nodes.{all_made, made_more}
+use Rattle.farm_nodes_open_seats.proofs.Told.{journals_fault, no_refusal, no_room}
 use Rattle.cfarm_fsck_journals.specs.Listed.{AreListedIn, AreRefusedIn}
 use Rattle.cfarm_fsck.specs.Folder.{IsJournalIn, IsRefusedFile}
 use Rattle.cfarm_fsck.proofs.journals.journals_of.Goals as goal

@@ -1,4 +1,4 @@
-use Rattle.farm_nodes_stored.specs.Nodes.{AreMade}
+use Rattle.farm_nodes_open_seats.specs.Nodes.{AreMade}
 use Rattle.cfarm_fsck.specs.Folder.{IsJournalIn}
 use Rattle.cfarm_fsck.proofs.journals.journals_of.Given as goal
 

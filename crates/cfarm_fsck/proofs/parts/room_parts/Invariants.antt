@@ -1,5 +1,5 @@
 use Rattle.std.proofs.Common.{◌≡◌, take}
-use Rattle.farm_nodes_function_rooms.specs.Kept.{kept_of}
+use Rattle.farm_nodes_open_seats.specs.Kept.{kept_of}
 use Rattle.cfarm_fsck.proofs.parts.room_parts.Given as goal
 
 -- what the nodes so far have kept of the room

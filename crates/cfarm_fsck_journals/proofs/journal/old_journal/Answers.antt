@@ -1,7 +1,7 @@
 -- The records are those that are made of the old ones.
 use Rattle.std.proofs.Common.{List, ℕ, sym, subst, arith}
 use Rattle.acceptor_log_form.specs.Text.{StandsFor}
-use Rattle.acceptor_log_migrated.specs.Migrated.{migrated}
+use Rattle.acceptor_log_old.specs.Migrated.{migrated}
 use Rattle.cfarm_fsck_journals.proofs.ReadFiles.{one_reading}
 use Rattle.cfarm_fsck_journals.proofs.journal.old_journal.Goals as goal
 

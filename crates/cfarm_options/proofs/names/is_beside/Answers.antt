@@ -1,3 +1,4 @@
+-- Why `is_beside` meets its contract.
 use Rattle.std.proofs.Common.{codes, sym, ◌∙◌, arith}
 use Rattle.cfarm_options.proofs.Beside.{by_the_front, by_what_is_behind, joined}
 use Rattle.cfarm_options.proofs.names.is_beside.Goals as goal

@@ -1,3 +1,4 @@
+-- Why the loop of `print_all` begins and ends.
 use Rattle.cfarm_output.proofs.Pieces.{no_more, some_more}
 use Rattle.cfarm_output.proofs.printing.print_all.Goals as goal
 

@@ -1,7 +1,8 @@
+-- Why `build` meets its clause `does`.
 use Rattle.std.proofs.Common.{refl, inl, inr, subst, sym}
 use Rattle.cfarm_files.specs.declared.fault.FileFault.TheVariants.{Refused}
-use Rattle.cfarm_telling.specs.Reading.{unread}
-use Rattle.cfarm_telling.proofs.Answering.{plainly}
+use Rattle.cfarm_program_status.specs.Reading.{unread}
+use Rattle.cfarm_program_status.proofs.Answering.{plainly}
 use Rattle.cfarm_program.specs.Built.{IsTakenAt}
 use Rattle.cfarm_program.proofs.Placing.{keeps_same}
 use Rattle.cfarm_program.proofs.performing.build.Goals as goal

@@ -1,9 +1,10 @@
+-- Why `build_apart` meets its clause `does`.
 use Rattle.std.specs.Prelude.{false}
 use Rattle.std.proofs.Common.{refl, inl, inr, ◌∙◌}
-use Rattle.cfarm_build_folder.specs.Answers.{building_line}
+use Rattle.cfarm_build.specs.Answers.{building_line}
 use Rattle.cfarm_program.specs.Built.{building_fault}
-use Rattle.cfarm_telling.specs.Telling.{quiet}
-use Rattle.cfarm_telling.proofs.Answering.{among}
+use Rattle.cfarm_program_status.specs.Telling.{quiet}
+use Rattle.cfarm_program_status.proofs.Answering.{among}
 use Rattle.cfarm_program.proofs.performing.build_apart.Goals as goal
 
 pub returns-in-Ok-clause-does : goal.returns-in-Ok-clause-does

@@ -1,6 +1,7 @@
+-- Why `look` meets its clause `does`.
 use Rattle.std.proofs.Common.{subst}
 use Rattle.paxos_core_world.specs.Quorum.{Sizes}
-use Rattle.cfarm_folder.specs.Looking.{Looked}
+use Rattle.cfarm_fsck_files.specs.Looking.{Looked}
 use Rattle.cfarm_program.proofs.performing.look.Goals as goal
 
 pub returns-clause-does : goal.returns-clause-does

@@ -1,6 +1,7 @@
+-- Why `perform` meets its clause `does`, and it may call `build` and `look`.
 use Rattle.std.proofs.Common.{subst}
 use Rattle.cfarm_program.specs.Met.{AreMet}
-use Rattle.cfarm_telling.proofs.Answering.{plainly}
+use Rattle.cfarm_program_status.proofs.Answering.{plainly}
 use Rattle.cfarm_program.proofs.Placing.{keeps_same}
 use Rattle.cfarm_program.proofs.performing.perform.Goals as goal
 

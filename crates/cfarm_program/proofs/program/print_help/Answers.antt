@@ -1,3 +1,4 @@
+-- Why `print_help` meets its clause `help`.
 use Rattle.std.specs.Prelude.{codes}
 use Rattle.std.proofs.Common.{refl, inr}
 use Rattle.cfarm_program.proofs.program.print_help.Goals as goal

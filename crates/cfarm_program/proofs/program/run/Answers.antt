@@ -1,3 +1,4 @@
+-- Why `run` meets its clause `does`.
 use Rattle.std.proofs.Common.{refl, inl, inr}
 use Rattle.clap.specs.Words.{kind_of}
 use Rattle.cfarm_program.proofs.Placing.{keeps_same}

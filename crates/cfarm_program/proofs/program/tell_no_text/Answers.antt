@@ -1,3 +1,4 @@
+-- Why `tell_no_text` meets its clause `told`.
 use Rattle.std.specs.Prelude.{codes}
 use Rattle.std.proofs.Common.{refl}
 use Rattle.cfarm_program.proofs.program.tell_no_text.Goals as goal

@@ -1,3 +1,4 @@
+-- Why `read_and_perform` meets its clause `does`.
 use Rattle.std.proofs.Common.{refl, inl, inr}
 use Rattle.cfarm_program.proofs.Placing.{keeps_same}
 use Rattle.cfarm_program.proofs.running.read_and_perform.Goals as goal

@@ -1,3 +1,4 @@
+-- Why `run_task` meets its clause `does`, and it may call `read_and_perform`.
 use Rattle.std.proofs.Common.{refl, inl, inr}
 use Rattle.cfarm_program.proofs.Placing.{keeps_same}
 use Rattle.cfarm_program.proofs.running.run_task.Goals as goal

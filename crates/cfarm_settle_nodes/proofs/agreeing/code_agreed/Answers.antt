@@ -1,3 +1,4 @@
+-- Why `code_agreed` meets its clause `agreed`.
 use Rattle.cfarm_settle_nodes.proofs.Three.{agreed_code, found_too}
 use Rattle.cfarm_settle_nodes.proofs.agreeing.code_agreed.Goals as goal
 

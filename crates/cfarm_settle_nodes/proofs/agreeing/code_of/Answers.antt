@@ -1,3 +1,4 @@
+-- Why `code_of` meets its contract.
 use Rattle.cfarm_settle_nodes.proofs.Three.{code_of_node}
 use Rattle.cfarm_settle_nodes.proofs.agreeing.code_of.Goals as goal
 

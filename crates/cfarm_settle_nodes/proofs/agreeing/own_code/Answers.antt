@@ -1,3 +1,4 @@
+-- Why `own_code` meets its contract.
 use Rattle.cfarm_settle_nodes.proofs.Three.{own_code_of}
 use Rattle.cfarm_settle_nodes.proofs.agreeing.own_code.Goals as goal
 

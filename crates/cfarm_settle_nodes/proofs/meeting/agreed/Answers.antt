@@ -1,3 +1,4 @@
+-- Why `agreed` meets its clauses `learned`, `first`, `second` and `third`.
 use Rattle.std.proofs.Common.{sym, ◌∙◌}
 use Rattle.cfarm_settle_nodes.proofs.Meetings.{all_learned, both_learned, learned_alike}
 use Rattle.cfarm_settle_nodes.proofs.Going.{remained, stays_if, stays_through}

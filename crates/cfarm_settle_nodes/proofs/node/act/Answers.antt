@@ -1,3 +1,4 @@
+-- Why `act` meets its contract.
 use Rattle.cfarm_settle_nodes.proofs.Going.{goes_through, read_on, stays_on}
 use Rattle.cfarm_settle_nodes.proofs.node.act.Goals as goal
 

@@ -1,3 +1,4 @@
+-- Why `hear` meets its contract.
 use Rattle.cfarm_settle_nodes.proofs.Going.{stays_looked_at_acceptor, stays_looked_at_proposer, stays_through}
 use Rattle.cfarm_settle_nodes.proofs.node.hear.Goals as goal
 

@@ -1,3 +1,4 @@
+-- Why the loop of `hear_all` over `j` keeps the invariant.
 use Rattle.cfarm_settle_nodes.proofs.Going.{stays_still, stays_through}
 use Rattle.cfarm_settle_nodes.proofs.node.hear_all.Goals as goal
 

@@ -1,4 +1,5 @@
-use Rattle.rooms_state.specs.declared.act.Act.TheVariants as act
+-- Why `start` meets its contract.
+use Rattle.rooms_seat_state.specs.declared.act.Act.TheVariants as act
 use Rattle.cfarm_settle_nodes.proofs.Going.{stays_acted}
 use Rattle.cfarm_settle_nodes.proofs.node.start.Goals as goal
 

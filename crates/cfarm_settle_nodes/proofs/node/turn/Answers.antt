@@ -1,3 +1,4 @@
+-- Why `turn` meets its clause `seat`.
 use Rattle.cfarm_settle_nodes.proofs.Going.{goes_through}
 use Rattle.cfarm_settle_nodes.proofs.node.turn.Goals as goal
 

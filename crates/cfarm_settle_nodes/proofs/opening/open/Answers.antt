@@ -1,3 +1,4 @@
+-- Why `open` meets its clause `seats`.
 use Rattle.cfarm_settle_nodes.proofs.Nodes.{same_seats}
 use Rattle.cfarm_settle_nodes.proofs.opening.open.Goals as goal
 

@@ -1,3 +1,4 @@
+-- Why `seats` meets its clause `nothing`.
 use Rattle.std.proofs.Common.{ap}
 use Rattle.paxos_core_world.specs.Quorum.{Sizes}
 use Rattle.cfarm_settle_nodes.proofs.Openings.{three_unmade}

@@ -1,6 +1,6 @@
 -- The function of a number has a C name.
 use Rattle.std.proofs.Common.{Some, sym, ap, subst, ◌∙◌}
-use Rattle.c_lexer_parts.specs.Lexemes.{IsName}
+use Rattle.c_lexer_lexemes.specs.Lexemes.{IsName}
 use Rattle.cfarm_verify.proofs.Named.{name_at, named_at}
 use Rattle.cfarm_verify.proofs.naming.name_of.Goals as goal
 

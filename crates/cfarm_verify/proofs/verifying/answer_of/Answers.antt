@@ -1,3 +1,4 @@
+-- Why `answer_of` meets its clauses `answer`, `refused` and `only`.
 use Rattle.std.specs.String.{string_bytes}
 use Rattle.cfarm_verify.specs.Told.{IsTold, IsWant}
 use Rattle.cfarm_verify.proofs.Answered.{answer_is, fault_is}

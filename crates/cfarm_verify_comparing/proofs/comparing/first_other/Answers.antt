@@ -1,7 +1,7 @@
 -- A function that differs, or one more that is the same.
 use Rattle.std.proofs.Common.{◌≡◌, ◌<◌, ◌≤◌, length, get_or, refl, sym, ap, ◌∙◌, arith}
 use native.Mathlib.Numerals.{unary_clauses}
-use Rattle.chains.specs.Offered.{ends_of}
+use Rattle.bundle_reading.specs.Offered.{ends_of}
 use Rattle.bundle_reading.specs.Read.{offers_in}
 use Rattle.bundle_offers.proofs.Compared.{same_name_at, same_next}
 use Rattle.cfarm_verify_comparing.proofs.Compared.{other_at}

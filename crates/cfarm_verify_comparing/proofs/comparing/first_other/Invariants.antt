@@ -1,5 +1,5 @@
 use Rattle.std.proofs.Common.{◌≡◌, length, take}
-use Rattle.chains.specs.Offered.{ends_of}
+use Rattle.bundle_reading.specs.Offered.{ends_of}
 use Rattle.bundle_reading.specs.Read.{offers_in}
 use Rattle.cfarm_verify_comparing.proofs.comparing.first_other.Given as goal
 

@@ -1,3 +1,4 @@
+-- Why `same_function` meets its contract.
 use Rattle.std.proofs.Common.{◌≡◌, true, sym, subst}
 use Rattle.linear_language.specs.Equal.{function_tells, same_function, same_laws}
 use Rattle.cfarm_verify_comparing.proofs.comparing.same_function.Goals as goal

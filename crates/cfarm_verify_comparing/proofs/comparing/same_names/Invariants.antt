@@ -1,5 +1,5 @@
 use Rattle.std.proofs.Common.{◌≡◌, length, take}
-use Rattle.linker.specs.Chains.{names_of}
+use Rattle.bundle_reading.specs.Chains.{names_of}
 use Rattle.cfarm_verify_comparing.proofs.comparing.same_names.Given as goal
 
 -- as many names, and the first ones are the same

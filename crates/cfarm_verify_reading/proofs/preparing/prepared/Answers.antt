@@ -1,3 +1,4 @@
+-- Why `prepared` meets its contract.
 use Rattle.std.proofs.Common.{sym, subst}
 use Rattle.std.specs.Prelude.{IfOk, IfErr}
 use Rattle.farm_nodes_source.specs.Refused.{IsOnlyTooLarge, IsUnprepared}

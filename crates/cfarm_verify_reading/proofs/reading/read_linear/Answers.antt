@@ -1,3 +1,4 @@
+-- Why `read_linear` meets its clause `refused`.
 use Rattle.std.proofs.Common.{◌≡◌, [], ◌++◌, length, drop, sym, ap, ◌∙◌, arith}
 use Rattle.std.proofs.lemmas.List.{take-append-drop, length-drop, append-nil}
 use Rattle.linear_language.specs.Spelling.{spelling}

@@ -1,3 +1,4 @@
+-- Why `+lowering` may call `lower_action`.
 use Rattle.std.proofs.Common.{◌≡◌, sym, ap, subst, ◌∙◌}
 use Rattle.std.specs.Prelude.{IfOk}
 use Rattle.cminor_syntax.specs.Fits.{StatementFits}

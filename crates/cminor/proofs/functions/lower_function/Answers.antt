@@ -1,3 +1,4 @@
+-- Why `lower_function` may call `lower_body`.
 use Rattle.std.proofs.Common.{◌≤◌, max, suc, sym, subst, arith, All}
 use Rattle.c_program.specs.Views.{action_tree, actions_tree}
 use Rattle.cminor_syntax.specs.Fits.{StatementFits}

@@ -1,3 +1,4 @@
+-- Why `significant` meets its clause `front`, and its loop over `count` keeps the invariant.
 use Rattle.std.proofs.Common.{◌≡◌, ◌<◌, ◌-◌, suc, length, take, sym, subst, ap, ◌∙◌, arith}
 use Rattle.cminor_lowering.specs.Programs.{without_zeros}
 use Rattle.cminor.proofs.Zeros.{zero_dropped, word_kept}

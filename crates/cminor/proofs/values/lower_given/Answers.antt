@@ -1,3 +1,4 @@
+-- Why `lower_given` may call `lower_call`.
 use Rattle.std.proofs.Common.{map, subst}
 use Rattle.std.specs.List.{AllByRecursion}
 use Rattle.cminor_syntax.specs.Fits.{ExpressionFits, StatementFits}

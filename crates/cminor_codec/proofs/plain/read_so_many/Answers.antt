@@ -1,3 +1,4 @@
+-- Why `read_so_many` meets its contract.
 use Rattle.std.proofs.Common.{map}
 use Rattle.std.proofs.lemmas.List.{map-append}
 use Rattle.std.proofs.lemmas.Result.{err_from_is_err_and}

@@ -1,3 +1,4 @@
+-- Why `sequence` meets its contract.
 use Rattle.cminor_codec.proofs.Rows.{view_sequence}
 use Rattle.cminor_codec.proofs.statements.sequence.Goals as goal
 

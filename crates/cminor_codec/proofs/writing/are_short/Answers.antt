@@ -1,3 +1,4 @@
+-- Why `are_short` meets its clause `each`.
 use Rattle.cminor_codec.proofs.Texts.{each_short}
 use Rattle.cminor_codec.proofs.writing.are_short.Goals as goal
 

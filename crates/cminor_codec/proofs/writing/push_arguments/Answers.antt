@@ -1,3 +1,4 @@
+-- Why `push_arguments` meets its contract.
 use Rattle.std.proofs.Common.{[], ◌∷◌, length}
 use Rattle.cminor_codec.proofs.Texts.{expressions_texts, expressions_length, appends_behind}
 use Rattle.cminor_codec.proofs.writing.push_arguments.Goals as goal

@@ -1,3 +1,4 @@
+-- Why `+copying` meets what its body asks for.
 use Rattle.std.proofs.Common.{◌≡◌, map, sym, ap, ◌∙◌}
 use Rattle.cminor_syntax.specs.Trees as T
 use Rattle.cminor_syntax.specs.Views.{statement_tree, statements_tree}

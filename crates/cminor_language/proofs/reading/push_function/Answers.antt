@@ -1,3 +1,4 @@
+-- Why `push_function` may call `push_statement`.
 use Rattle.std.proofs.Common.{sym, subst}
 use Rattle.cminor_codec.specs.Short.{HasShortLists}
 use Rattle.cminor_language.proofs.Short.{short}

@@ -1,3 +1,4 @@
+-- Why `+walking` meets what its body asks for.
 use Rattle.std.proofs.Common.{◌≡◌, sym, ap, subst, ◌∙◌}
 use Rattle.c_program.specs.Trees as T
 use Rattle.c_program.specs.Views.{action_tree, actions_tree}

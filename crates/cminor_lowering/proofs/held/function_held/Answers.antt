@@ -1,3 +1,4 @@
+-- Why `function_held` meets its contract.
 use Rattle.std.proofs.Common.{subst}
 use Rattle.c_program.specs.Trees as T
 use Rattle.c_program.specs.Views.{actions_tree}

@@ -1,3 +1,4 @@
+-- Why `lowered_keeps` meets its clauses `keeps` and `together`.
 use Rattle.cminor_lowering.proofs.Programs.{lowered_keeps, runs_follow}
 use Rattle.cminor_lowering.proofs.law.lowered_keeps.Goals as goal
 

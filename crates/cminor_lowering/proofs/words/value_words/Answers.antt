@@ -1,3 +1,4 @@
+-- Why `value_words` meets its contract.
 use Rattle.std.proofs.Common.{All, sym, subst}
 use Rattle.c_program.specs.Views.{term_tree, given_tree}
 use Rattle.cminor_lowering.specs.Held.{HasWords, GivenHasWords}

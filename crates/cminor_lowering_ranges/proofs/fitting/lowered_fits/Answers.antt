@@ -1,3 +1,4 @@
+-- Why `lowered_fits` meets its clauses `globals` and `fits`.
 use Rattle.std.proofs.Common.{All, sym, subst}
 use Rattle.std.specs.List.{AllByRecursion}
 use Rattle.c_program.specs.Views.{function_tree}

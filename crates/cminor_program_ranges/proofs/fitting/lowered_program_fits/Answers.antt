@@ -1,7 +1,8 @@
+-- Why `lowered_program_fits` meets its clauses `exact` and `fits`.
 use Rattle.std.proofs.Common.{◌↔◌, ◌<◌, ◌^◌, All, IsTrue, sym, subst}
 use Rattle.std.specs.List.{AllByRecursion}
 use Rattle.c_checker_rules.specs.Checked.{program_tree}
-use Rattle.c_lexer_parts.specs.Lexemes.{IsName}
+use Rattle.c_lexer_lexemes.specs.Lexemes.{IsName}
 use Rattle.cminor_syntax.specs.Fits.{IsFunction}
 use Rattle.cminor_lowering.specs.Programs.{low}
 use Rattle.lang.specs.Form.{IsProgram}

@@ -1,5 +1,5 @@
 use Rattle.std.proofs.Common.{ℕ, ◌<◌, slice_index_or}
-use Rattle.c_lexer_parts.specs.Lexemes.{IsName}
+use Rattle.c_lexer_lexemes.specs.Lexemes.{IsName}
 use Rattle.c_program.specs.declared.function.Function.{Function}
 use Rattle.cminor_program_ranges.proofs.names.have_names.Given as goal
 

@@ -1,3 +1,4 @@
+-- Why `first_words` meets its contract.
 use Rattle.std.proofs.Common.{◌<◌, ◌^◌, subst}
 use Rattle.std.specs.List.{AllByRecursion}
 use Rattle.cminor_program_ranges.proofs.Rows.{number_by_recursion}

@@ -1,6 +1,7 @@
+-- Why `first_from` meets its contract.
 use Rattle.std.proofs.Common.{ltb, rules}
 use Rattle.std.proofs.lemmas.List.Sorted.{IsPartitionPoint-from_clause}
-use Rattle.rtl_passes_filled.proofs.Places.{lower_first, first_at}
+use Rattle.rtl_passes_facts.proofs.Places.{lower_first, first_at}
 use Rattle.constprop_check_rules.specs.Rules.{rank}
 use Rattle.constprop_check.proofs.keeping.first_from.Goals as goal
 

@@ -1,7 +1,8 @@
+-- Why `forget` meets its contract.
 use Rattle.std.proofs.Common.{◌≡◌, ◌<◌, length, eqb, sym, ap, ◌∙◌, arith}
 use Rattle.std.specs.Prelude.{not}
 use Rattle.std.proofs.lemmas.List.{get_or_default}
-use Rattle.rtl_passes_filled.proofs.Places.{one_is_removed, none_is_removed}
+use Rattle.rtl_passes_facts.proofs.Places.{one_is_removed, none_is_removed}
 use Rattle.constprop_check_rules.specs.Rules.{rank}
 use Rattle.constprop_check.proofs.Kept.{is_gone, is_kept}
 use Rattle.constprop_check.proofs.keeping.forget.Goals.{else-at-len-via-then-at-len+else-index-register, else-at-len-via-else-at-len}

@@ -1,3 +1,4 @@
+-- Why `keep` meets its contract.
 use Rattle.std.proofs.Common.{◌≡◌, sym, subst}
 use Rattle.std.specs.Prelude.{not}
 use Rattle.std.specs.List.{filter}

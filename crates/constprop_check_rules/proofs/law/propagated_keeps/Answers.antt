@@ -1,3 +1,4 @@
+-- Why `propagated_keeps` meets its clauses `lists` and `rows`.
 use Rattle.constprop_check_rules.proofs.Sound.{sound, rows_sound}
 use Rattle.constprop_check_rules.proofs.law.propagated_keeps.Goals as goal
 

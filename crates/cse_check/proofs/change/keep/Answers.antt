@@ -1,3 +1,4 @@
+-- Why `keep` meets its contract.
 use Rattle.std.proofs.Common.{rules, sym}
 use Rattle.std.proofs.lemmas.Fn.{filter_same}
 use Rattle.cse_check.specs.Change.{keeps}

@@ -1,3 +1,4 @@
+-- Why `is_among` meets its contract, and its loop over `other` keeps the invariant.
 use Rattle.std.proofs.lemmas.Bool.{iff_false}
 use Rattle.cse_check.proofs.Among.{none_more, found, none_found}
 use Rattle.cse_check.proofs.moves.is_among.Goals as goal

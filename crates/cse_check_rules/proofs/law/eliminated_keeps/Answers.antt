@@ -1,3 +1,4 @@
+-- Why `eliminated_keeps` meets its clauses `lists` and `rows`.
 use Rattle.cse_check_rules.proofs.Sound.{sound, rows_sound}
 use Rattle.cse_check_rules.proofs.law.eliminated_keeps.Goals as goal
 

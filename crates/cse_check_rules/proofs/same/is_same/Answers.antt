@@ -1,3 +1,4 @@
+-- Why `is_same` meets its contract.
 use Rattle.machine.proofs.Equal.{tells_decides}
 use Rattle.cse_check_rules.specs.contracts.equation.EquationEq.TheImpl.Laws as equation_laws
 use Rattle.cse_check_rules.proofs.Equal.{equation_tells}

@@ -1,3 +1,4 @@
+-- Why `overwrite` meets its clause `ok`.
 use Rattle.std.proofs.Common.{◌≡◌, ◌+◌, ◌<◌, ◌≤◌, length, rules}
 use Rattle.durable_model_writes.proofs.Filled.{overwritten_filled}
 use Rattle.durable_model_writes.proofs.overwriting.overwrite.Goals as goal

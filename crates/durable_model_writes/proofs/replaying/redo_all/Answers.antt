@@ -1,3 +1,4 @@
+-- Why the loop of `redo_all` over `call` keeps the invariant.
 use Rattle.std.proofs.lemmas.List.{take_more}
 use Rattle.durable_model_writes.proofs.Redone.{more_redone}
 use Rattle.durable_model_writes.proofs.replaying.redo_all.Goals as goal

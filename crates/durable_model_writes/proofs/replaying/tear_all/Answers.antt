@@ -1,3 +1,4 @@
+-- Why `tear_all` meets its contract, and its loop over `call` keeps the invariant.
 use Rattle.std.proofs.Common.{◌≡◌, subst, ◌∙◌, take}
 use Rattle.std.proofs.lemmas.List.{take_more, take_all}
 use Rattle.durable_model_writes.specs.History.{RedoneTo}

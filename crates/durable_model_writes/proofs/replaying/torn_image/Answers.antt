@@ -1,3 +1,4 @@
+-- Why `torn_image` meets its contract.
 use Rattle.std.proofs.Common.{rules, ◌≡◌, [], ap, subst, sym, ◌∙◌}
 use Rattle.durable_model_writes.specs.History.{noted, MayLeave}
 use Rattle.durable_model_writes.specs.History.{seen_left}

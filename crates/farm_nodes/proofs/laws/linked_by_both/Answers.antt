@@ -1,9 +1,10 @@
+-- Why `linked_by_both` meets its clauses `one` and `decided`.
 use Rattle.std.proofs.Common.{sym, ◌∙◌, ap}
 use Rattle.c_checker_rules.specs.Checked.{program_tree}
 use Rattle.cminor_lowering.specs.Programs.{low}
 use Rattle.rtlgen_definition.specs.Gen.{gen}
-use Rattle.farm_nodes_linked.specs.Offered.{linked_offers}
-use Rattle.farm_nodes_linked.proofs.Alike.{none_undecided, one_learned}
+use Rattle.farm_nodes_link.specs.Offered.{linked_offers}
+use Rattle.farm_nodes_link.proofs.Alike.{none_undecided, one_learned}
 use Rattle.farm_nodes.proofs.One.{one_program}
 use Rattle.farm_nodes.proofs.laws.linked_by_both.Goals as goal
 

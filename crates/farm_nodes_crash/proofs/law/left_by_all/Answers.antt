@@ -1,3 +1,4 @@
+-- Why `left_by_all` meets its clauses `journals`, `rooms`, `opened`, `met` and 1 more.
 use Rattle.farm_nodes_crash.proofs.Again.{learned_again}
 use Rattle.farm_nodes_crash.proofs.Journals.{left_journals_stand}
 use Rattle.farm_nodes_crash.proofs.AtRest.{met_nodes_rest}

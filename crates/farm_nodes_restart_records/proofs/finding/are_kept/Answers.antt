@@ -1,6 +1,7 @@
+-- Why `are_kept` meets its contract, and its loop over `function` keeps the invariant.
 use Rattle.std.proofs.Common.{IsTrue, true, refl, arith}
 use Rattle.std.proofs.lemmas.List.{length-map}
-use Rattle.farm_nodes_passes.specs.Fours.{four_of, fours_of}
+use Rattle.farm_nodes_turn_passes.specs.Fours.{four_of, fours_of}
 use Rattle.farm_nodes_restart_records.proofs.Keeping.{kept_seen, kept_to_all, kept_to_more, kept_to_none}
 use Rattle.farm_nodes_restart_records.proofs.finding.are_kept.Goals as goal
 

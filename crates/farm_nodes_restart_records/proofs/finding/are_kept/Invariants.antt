@@ -1,5 +1,5 @@
 use Rattle.std.proofs.Common.{◌↔◌, IsTrue}
-use Rattle.farm_nodes_passes.specs.Fours.{fours_of}
+use Rattle.farm_nodes_turn_passes.specs.Fours.{fours_of}
 use Rattle.farm_nodes_restart_records.proofs.Keeping.{AreKeptTo}
 use Rattle.farm_nodes_restart_records.proofs.finding.are_kept.Given as goal
 

@@ -1,6 +1,7 @@
+-- Why `confirmed` meets its clauses `ok` and `refused`.
 use Rattle.std.proofs.Common.{refl}
-use Rattle.farm_nodes_passes.specs.Fours.{fours_of}
-use Rattle.farm_nodes_passes.specs.Texts.{pass_texts}
+use Rattle.farm_nodes_turn_passes.specs.Fours.{fours_of}
+use Rattle.farm_nodes_turn_passes.specs.Texts.{pass_texts}
 use Rattle.farm_nodes_restart_records.specs.declared.finding.Found.TheVariants as found
 use Rattle.farm_nodes_restart_records.proofs.Texts.{confirmed_pending, confirmed_whole, settled_refused}
 use Rattle.farm_nodes_restart_records.proofs.finding.confirmed.Goals as goal

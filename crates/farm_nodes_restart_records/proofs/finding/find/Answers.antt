@@ -1,10 +1,11 @@
+-- Why `find` meets its clauses `found`, `in_order` and `refused`.
 use Rattle.std.proofs.Common.{◌≡◌, ◌≢◌, ◌*◌, List, length, sym, subst, arith}
 use Rattle.std.proofs.lemmas.List.{length-map}
 use Rattle.paxos_core_world.specs.KeptPart.{KeptPart}
 use Rattle.acceptor_log_form.specs.Order.{AreInOrder}
-use Rattle.farm_nodes_passes.specs.Fours.{four_of, fours_of}
+use Rattle.farm_nodes_turn_passes.specs.Fours.{four_of, fours_of}
 use Rattle.acceptor_log_form.specs.declared.errors.LogError.TheVariants.{BadRecord, NoMemory}
-use Rattle.farm_nodes_passes.specs.Texts.{pass_texts}
+use Rattle.farm_nodes_turn_passes.specs.Texts.{pass_texts}
 use Rattle.farm_nodes_restart_records.specs.Found.{IsFound, ShowFront, ShowParts}
 use Rattle.farm_nodes_restart_records.specs.Told.{IsConfirmed}
 use Rattle.farm_nodes_restart_records.proofs.Texts.{err_as, ok_as, on_ok}

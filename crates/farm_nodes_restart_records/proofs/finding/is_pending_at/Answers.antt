@@ -1,5 +1,6 @@
+-- Why `is_pending_at` meets its contract, and it may call `index` and `is_pending_in`.
 use Rattle.std.proofs.Common.{IsTrue, arith}
-use Rattle.farm_nodes_passes.specs.Fours.{four_of}
+use Rattle.farm_nodes_turn_passes.specs.Fours.{four_of}
 use Rattle.farm_nodes_restart_records.proofs.Leaving.{asked_here, pending_here, room_within}
 use Rattle.farm_nodes_restart_records.proofs.finding.is_pending_at.Goals as goal
 

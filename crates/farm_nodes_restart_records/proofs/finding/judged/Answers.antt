@@ -1,5 +1,6 @@
+-- Why `judged` meets its contract.
 use Rattle.std.proofs.Common.{IsTrue}
-use Rattle.farm_nodes_passes.specs.Fours.{fours_of}
+use Rattle.farm_nodes_turn_passes.specs.Fours.{fours_of}
 use Rattle.farm_nodes_restart_records.proofs.Leaving.{judged_is}
 use Rattle.farm_nodes_restart_records.proofs.finding.judged.Goals as goal
 

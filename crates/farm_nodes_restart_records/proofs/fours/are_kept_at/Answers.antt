@@ -1,7 +1,8 @@
+-- Why `are_kept_at` meets its contract, and it may call `is_kept_in`.
 use denote.Param.Send.{sendable}
 use Rattle.std.proofs.Common.{IsTrue}
-use Rattle.farm_nodes_passes.specs.Fours.{four_of}
-use Rattle.rooms_function.proofs.Sent.{function_send, function_sync}
+use Rattle.farm_nodes_turn_passes.specs.Fours.{four_of}
+use Rattle.farm_nodes_turn_passes.proofs.Sent.{function_send, function_sync}
 use Rattle.farm_nodes_restart_records.proofs.Keeping.{four_kept}
 use Rattle.farm_nodes_restart_records.proofs.fours.are_kept_at.Goals as goal
 

@@ -1,5 +1,6 @@
+-- Why `is_pending_in` meets its contract, and it may call `is_pending`.
 use denote.Param.Send.{sendable}
-use Rattle.rooms_function.proofs.Sent.{function_send, function_sync}
+use Rattle.farm_nodes_turn_passes.proofs.Sent.{function_send, function_sync}
 use Rattle.farm_nodes_restart_records.proofs.fours.is_pending_in.Goals as goal
 
 pub is_pending-requires-in-Allocation-send-P-Out-Fun : goal.is_pending-requires-in-Allocation-send-P-Out-Fun

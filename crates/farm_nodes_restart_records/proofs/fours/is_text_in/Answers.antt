@@ -1,5 +1,6 @@
+-- Why `is_text_in` meets its contract, and it may call `is_own_text`.
 use denote.Param.Send.{sendable}
-use Rattle.rooms_function.proofs.Sent.{function_send, function_sync}
+use Rattle.farm_nodes_turn_passes.proofs.Sent.{function_send, function_sync}
 use Rattle.farm_nodes_restart_records.proofs.fours.is_text_in.Goals as goal
 
 pub is_own_text-requires-in-Allocation-send-P-Out-Fun : goal.is_own_text-requires-in-Allocation-send-P-Out-Fun

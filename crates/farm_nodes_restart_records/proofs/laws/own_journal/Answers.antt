@@ -1,4 +1,5 @@
-use Rattle.farm_nodes_passes.specs.Texts.{pass_texts}
+-- Why `own_journal` meets its contract.
+use Rattle.farm_nodes_turn_passes.specs.Texts.{pass_texts}
 use Rattle.farm_nodes_restart_records.proofs.Own.{own}
 use Rattle.farm_nodes_restart_records.proofs.laws.own_journal.Goals as goal
 

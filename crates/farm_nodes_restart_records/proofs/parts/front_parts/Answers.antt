@@ -1,3 +1,4 @@
+-- Why `front_parts` meets its clauses `front` and `refused`.
 use Rattle.farm_nodes_restart_records.proofs.Leaving.{refused_front, show_front}
 use Rattle.farm_nodes_restart_records.proofs.parts.front_parts.Goals as goal
 

@@ -1,3 +1,4 @@
+-- Why `is_kept_in` meets its contract.
 use Rattle.std.proofs.Common.{◌≡◌, ◌↔◌, IsTrue, Some, subst}
 use Rattle.std.specs.Prelude.{slice_get}
 use Rattle.paxos_core_world.specs.KeptPart.{KeptPart}

@@ -1,3 +1,4 @@
+-- Why `is_part` meets its contract.
 use Rattle.farm_nodes_restart_records.proofs.Keeping.{part_at}
 use Rattle.farm_nodes_restart_records.proofs.seat.is_part.Goals as goal
 

@@ -1,7 +1,8 @@
+-- Why `are_told` meets its contract, and its loop over `place` keeps the invariant.
 use Rattle.std.proofs.Common.{IsTrue, true, length, refl, arith}
 use Rattle.std.proofs.lemmas.Option.{slice_get_read}
-use Rattle.farm_nodes_passes.specs.Fours.{fours_of}
-use Rattle.farm_nodes_passes.specs.Texts.{pass_texts}
+use Rattle.farm_nodes_turn_passes.specs.Fours.{fours_of}
+use Rattle.farm_nodes_turn_passes.specs.Texts.{pass_texts}
 use Rattle.farm_nodes_restart_records.proofs.Texts.{told_to_all, told_to_more, told_to_none}
 use Rattle.farm_nodes_restart_records.proofs.telling.are_told.Goals as goal
 

@@ -1,6 +1,6 @@
 use Rattle.std.proofs.Common.{◌↔◌, IsTrue}
-use Rattle.farm_nodes_passes.specs.Fours.{fours_of}
-use Rattle.farm_nodes_passes.specs.Texts.{pass_texts}
+use Rattle.farm_nodes_turn_passes.specs.Fours.{fours_of}
+use Rattle.farm_nodes_turn_passes.specs.Texts.{pass_texts}
 use Rattle.farm_nodes_restart_records.specs.Told.{AreToldTo}
 use Rattle.farm_nodes_restart_records.proofs.telling.are_told.Given as goal
 

@@ -1,3 +1,4 @@
+-- Why `offer_again` meets its clause `ok`, and it may call `lay_again`.
 use Rattle.std.proofs.Common.{arith}
 use Rattle.farm_nodes_restart_seat.proofs.Offers.{has_text, took_offer}
 use Rattle.farm_nodes_restart_seat.proofs.taking.offer_again.Goals as goal

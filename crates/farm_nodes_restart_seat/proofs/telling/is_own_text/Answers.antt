@@ -1,4 +1,5 @@
-use Rattle.farm_nodes_offers.specs.Pending.{IsOfferText}
+-- Why `is_own_text` meets its contract.
+use Rattle.farm_nodes_turn_offer.specs.Pending.{IsOfferText}
 use Rattle.farm_nodes_restart_seat.proofs.Offers.{own_if}
 use Rattle.farm_nodes_restart_seat.proofs.telling.is_own_text.Goals as goal
 

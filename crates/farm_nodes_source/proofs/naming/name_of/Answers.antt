@@ -1,6 +1,6 @@
 -- The function of a number has a C name.
 use Rattle.std.proofs.Common.{get_or, Some, sym, ap, subst, ◌∙◌}
-use Rattle.c_lexer_parts.specs.Lexemes.{IsName}
+use Rattle.c_lexer_lexemes.specs.Lexemes.{IsName}
 use Rattle.c_program.specs.declared.function.Function.{Function}
 use Rattle.farm_nodes_source.proofs.Numbered.{name_at, named_at}
 use Rattle.farm_nodes_source.proofs.naming.name_of.Goals as goal

@@ -1,3 +1,4 @@
+-- Why `text_of` may call `unreachable`.
 use Rattle.farm_nodes_source.proofs.Names.{name_is_text}
 use Rattle.farm_nodes_source.proofs.naming.text_of.Goals as goal
 

@@ -1,10 +1,11 @@
+-- Why `run_threads` meets its clauses `came`, `fit` and `same`, and it may call `run_threads` and `all_nodes`.
 use Rattle.std.proofs.Common.{◌≡◌, map, length, sym, ap, ◌∙◌, subst, subst₂, arith}
 use Rattle.std.specs.List.{AllByRecursion, AllZip}
-use Rattle.farm_nodes_passes.specs.Fours.{fours_of}
-use Rattle.farm_nodes_node.specs.Held.{IsSoundNode}
-use Rattle.farm_nodes_node.specs.Waiting.{IsWaiting}
+use Rattle.farm_nodes_turn_node.specs.Fours.{fours_of}
+use Rattle.farm_nodes_turn_node.specs.Held.{IsSoundNode}
+use Rattle.farm_nodes_turn_node.specs.Waiting.{IsWaiting}
 use Rattle.farm_nodes_threads.specs.CameBack.{CameBack}
-use Rattle.farm_nodes_passes.specs.Texts.{pass_texts}
+use Rattle.farm_nodes_turn_node.specs.Texts.{pass_texts}
 use Rattle.farm_nodes_threads.proofs.Coming.{all_came, all_fit, all_long, all_stay}
 use Rattle.farm_nodes_threads.proofs.Mapped.{all_held, all_mapped, map_long, zip_mapped}
 use Rattle.farm_nodes_threads.proofs.coming_back.run_threads.Goals as goal

@@ -1,3 +1,4 @@
+-- Why `all_nodes` meets its contract, and its loop over `taking` keeps the invariant.
 use Rattle.std.proofs.Common.{[], ◌∷◌, ◌++◌, map, length, sym, ap, ◌∙◌, append_assoc, append-nil, arith}
 use Rattle.std.specs.Vec.Iter.{into_iter_items}
 use Rattle.farm_nodes_threads.proofs.Mapped.{nothing_left}

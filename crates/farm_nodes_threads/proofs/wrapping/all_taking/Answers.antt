@@ -1,3 +1,4 @@
+-- Why `all_taking` meets its contract, and its loop over `node` keeps the invariant.
 use Rattle.std.proofs.Common.{◌++◌, map, length, sym, ap, ◌∙◌, append-nil, arith}
 use Rattle.std.specs.Vec.Iter.{into_iter_items}
 use Rattle.farm_nodes_threads.proofs.Mapped.{map_more, nothing_left}

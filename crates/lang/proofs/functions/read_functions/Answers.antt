@@ -1,3 +1,4 @@
+-- Why `read_functions` meets its contract.
 use Rattle.std.proofs.Common.{◌<◌, length, arith}
 use Rattle.std.proofs.lemmas.Result.{err_from_is_err_and}
 use Rattle.lang.proofs.NamedRows.{under_way, functions_stop, one_more}

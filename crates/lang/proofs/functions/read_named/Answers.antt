@@ -1,3 +1,4 @@
+-- Why `read_named` meets its contract.
 use Rattle.std.proofs.Common.{sym, ◌∙◌}
 use Rattle.std.proofs.lemmas.Result.{err_from_is_err_and}
 use Rattle.lang_base.proofs.Forms.{AreBytes}

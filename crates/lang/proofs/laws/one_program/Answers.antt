@@ -1,3 +1,4 @@
+-- Why `one_program` meets its contract.
 use Rattle.lang.proofs.Whole as whole
 use Rattle.lang.proofs.laws.one_program.Goals as goal
 

@@ -1,3 +1,4 @@
+-- Why `is_name` meets its contract.
 use Rattle.lang.proofs.NameTests.{name_test}
 use Rattle.lang.proofs.names.is_name.Goals as goal
 

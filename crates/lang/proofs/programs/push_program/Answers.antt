@@ -1,3 +1,4 @@
+-- Why `push_program` may call `push_head` and `push_functions`.
 use Rattle.std.proofs.Common.{[]}
 use Rattle.lang.proofs.Texts.{globals_short, functions_short}
 use Rattle.lang.proofs.programs.push_program.Goals as goal

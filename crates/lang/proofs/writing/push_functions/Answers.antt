@@ -1,3 +1,4 @@
+-- Why `push_functions` meets its contract.
 use Rattle.std.proofs.lemmas.Result.{err_from_is_err_and}
 use Rattle.lang_base.proofs.Beginnings.{IsBeginningOf-front}
 use Rattle.lang.proofs.writing.push_functions.Goals as goal

@@ -1,3 +1,4 @@
+-- Why `go_back` meets its clause `fits`, and it may call `slice_mut`.
 use Rattle.std.proofs.Common.{◌≡◌, ◌-◌, ◌∷◌, ◌≤◌, length, take, drop, sym, ap, subst, ◌∙◌, arith}
 use Rattle.std.proofs.lemmas.List.{length-drop}
 use Rattle.lang_running.specs.Waiting.{Waiting, waiting_in}

@@ -1,3 +1,4 @@
+-- Why `leave` meets its clauses `turn` and `fits`, and it may call `leave` and `go_back`.
 use Rattle.std.proofs.Common.{◌≡◌, length, take, drop, sym, ap, subst, ◌∙◌, arith}
 use Rattle.lang_running.specs.Waiting.{waiting_in}
 use Rattle.lang_running.specs.Fits.{CallersStand, CallersFit}

@@ -1,5 +1,5 @@
 use Rattle.std.proofs.Common.{◌≡◌, ◌+◌, drop}
-use Rattle.machine.specs.Frames.{main_number}
+use Rattle.lang_running_cells.specs.Frames.{main_number}
 use Rattle.lang_running.proofs.starting.find_main.Given as goal
 
 abbrev pub invariant-loop-number : goal.invariant-loop-number

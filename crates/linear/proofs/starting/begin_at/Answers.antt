@@ -1,8 +1,9 @@
+-- Why `begin_at` meets its contract.
 use Rattle.std.proofs.Common.{◌≡◌, ◌+◌, ◌++◌, length, replicate, None, refl, sym, ap, ◌∙◌}
 use Rattle.std.proofs.lemmas.Option.{slice_get_read, get_or_from_slice_get}
 use Rattle.lang_base.specs.declared.program.Named.{Named}
 use Rattle.linear_language.specs.Function.{FunctionData}
-use Rattle.linear_calls.specs.Places.{start_of}
+use Rattle.linear_run_calls.specs.Places.{start_of}
 use Rattle.linear.proofs.Main.{begins_fits, begins_so}
 use Rattle.linear.proofs.starting.begin_at.Goals as goal
 

@@ -1,3 +1,4 @@
+-- Why `no_labels` meets its contract.
 use Rattle.std.proofs.Common.{refl}
 use Rattle.linear_language.proofs.Noted.{none_stand}
 use Rattle.linear_language.proofs.labels.no_labels.Goals as goal

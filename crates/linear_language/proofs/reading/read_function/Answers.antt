@@ -1,3 +1,4 @@
+-- Why `read_function` may call `new`.
 use Rattle.std.proofs.Common.{ℕ, List}
 use Rattle.lang_base.proofs.Forms.{AreBytes, AreBytes-rest}
 use Rattle.lang_base.proofs.Parts.{byte_form}

@@ -1,3 +1,4 @@
+-- Why `baseline` meets its clause `laid_out`.
 use Rattle.linearize_check.proofs.Verdicts.{laid_out-by_order}
 use Rattle.linearize_check.proofs.base.baseline.Goals as goal
 

@@ -1,3 +1,4 @@
+-- Why `lowest_disordered` meets its contract.
 use Rattle.linearize_check.specs.Faults.{IsFreshAt, IsClosedAt}
 use Rattle.linearize_check.proofs.Lowest.{lowest-both}
 use Rattle.linearize_check.proofs.faults.lowest_disordered.Goals as goal

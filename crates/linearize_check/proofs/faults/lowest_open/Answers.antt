@@ -1,3 +1,4 @@
+-- Why `lowest_open` meets its contract, and its loop over `node` keeps the invariant.
 use Rattle.std.proofs.Common.{◌≡◌, length, subst, arith}
 use Rattle.std.proofs.lemmas.Bool.{iff_false}
 use Rattle.linearize_check.specs.Faults.{IsClosedAt, TellsLowest}

@@ -1,3 +1,4 @@
+-- Why `lowest_repeated` meets its clause `found`, and its loop over `node` keeps the invariant.
 use Rattle.std.proofs.Common.{◌≡◌, ◌<◌, length, get_or, subst, arith}
 use Rattle.linearize_check.specs.Faults.{IsFreshAt, TellsLowest}
 use Rattle.linearize_check.proofs.Lowest.{lowest-right, lowest-wrong}

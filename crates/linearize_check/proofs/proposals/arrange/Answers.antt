@@ -1,3 +1,4 @@
+-- Why `arrange` meets its clause `laid_out`.
 use Rattle.linearize_check_proof.specs.Orders.{IsOrder}
 use Rattle.linearize_check.proofs.Verdicts.{laid_out-by_order}
 use Rattle.linearize_check.proofs.proposals.arrange.Goals as goal

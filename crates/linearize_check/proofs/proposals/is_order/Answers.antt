@@ -1,3 +1,4 @@
+-- Why `is_order` meets its contract.
 use Rattle.linearize_check.proofs.Verdicts.{order-exact}
 use Rattle.linearize_check.proofs.proposals.is_order.Goals as goal
 

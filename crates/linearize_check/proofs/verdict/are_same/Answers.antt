@@ -1,6 +1,7 @@
+-- Why `are_same` meets its contract.
 use Rattle.std.proofs.lemmas.Slice.Eq.{slice_eq-Decides}
-use Rattle.machine.proofs.Equal.{tells_decides, location_tells}
-use Rattle.locations.specs.contracts.location.LocationEq.TheImpl.Laws as location_laws
+use Rattle.linearize_check_layout.proofs.Equal.{tells_decides, location_tells}
+use Rattle.linearize_check_layout.specs.LocationEq.TheImpl.Laws as location_laws
 use Rattle.linearize_check.proofs.verdict.are_same.Goals as goal
 
 pub returns : goal.returns

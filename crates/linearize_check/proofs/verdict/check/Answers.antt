@@ -1,3 +1,4 @@
+-- Why `check` meets its contract.
 use Rattle.linearize_check.proofs.Verdicts.{told-exact}
 use Rattle.linearize_check.proofs.verdict.check.Goals as goal
 

@@ -1,3 +1,4 @@
+-- Why `why` meets its contract.
 use Rattle.std.proofs.Common.{◌≡◌, length, inl, inr, ◌∙◌, rules}
 use Rattle.std.specs.Option.{option_map}
 use Rattle.std.proofs.lemmas.Bool.{iff_false, cases_lt}

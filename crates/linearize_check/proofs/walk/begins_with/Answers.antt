@@ -1,6 +1,7 @@
+-- Why `begins_with` meets its contract.
 use Rattle.std.proofs.Common.{drop, length}
 use Rattle.std.proofs.lemmas.Slice.Eq.{starts_is}
-use Rattle.machine.proofs.Equal.{tells_decides}
+use Rattle.linearize_check_layout.proofs.Equal.{tells_decides}
 use Rattle.linear_language.specs.contracts.instruction.InstructionEq.TheImpl.Laws as instruction_laws
 use Rattle.linear_language.specs.Equal.{instruction_tells}
 use Rattle.linearize_check.proofs.walk.begins_with.Goals as goal

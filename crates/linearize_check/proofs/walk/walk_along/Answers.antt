@@ -1,3 +1,4 @@
+-- Why `walk_along` meets its clauses `misplaced` and `longer`, and its loop over `i` keeps the invariant.
 use Rattle.std.proofs.Common.{◌≡◌, ℕ, zero, suc, ◌<◌, ◌+◌, Bool, true, false, not, eqb, length, ◌++◌, drop, subst, sym, ap, ◌∙◌, arith}
 use Rattle.std.specs.Prelude.{◌↔◌}
 use Rattle.std.proofs.lemmas.Bool.{iff_false, ne_eqb}

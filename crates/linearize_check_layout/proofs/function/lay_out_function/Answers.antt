@@ -1,3 +1,4 @@
+-- Why `lay_out_function` may call `new`.
 use Rattle.std.proofs.Common.{arith}
 use Rattle.linearize_check_layout.proofs.InRange.{order_code-in_range, all_below}
 use Rattle.linearize_check_layout.proofs.function.lay_out_function.Goals as goal

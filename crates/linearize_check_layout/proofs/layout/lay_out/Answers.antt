@@ -1,3 +1,4 @@
+-- Why the loop of `lay_out` over `node` keeps the invariant.
 use Rattle.linearize_check_layout.proofs.Stretches.{order_code_more}
 use Rattle.linearize_check_layout.proofs.layout.lay_out.Goals as goal
 

@@ -1,3 +1,4 @@
+-- Why the loop of `push_copies` over `step` keeps the invariant.
 use Rattle.linearize_check_layout.proofs.Stretches.{copies_more}
 use Rattle.linearize_check_layout.proofs.layout.push_copies.Goals as goal
 

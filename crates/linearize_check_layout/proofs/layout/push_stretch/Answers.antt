@@ -1,3 +1,4 @@
+-- Why `push_stretch` meets its contract.
 use Rattle.linearize_check_layout.proofs.Stretches.{stretch_parts}
 use Rattle.linearize_check_layout.proofs.layout.push_stretch.Goals as goal
 

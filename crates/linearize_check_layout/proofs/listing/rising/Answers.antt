@@ -1,3 +1,4 @@
+-- Why `rising` meets its clauses `rising` and `allowed`.
 use Rattle.linearize_check_layout.specs.Marks.{IsMarked}
 use Rattle.linearize_check_layout.specs.Reach.{IsReached}
 use Rattle.linearize_check_layout.proofs.Risings.{rising-same, rising_is_order}

@@ -1,3 +1,4 @@
+-- Why `rising_marked` meets its contract, and its loop over `place` keeps the invariant.
 use Rattle.std.proofs.Common.{◌≡◌, Some, true, false, ap, ◌∙◌, sym, arith}
 use Rattle.std.proofs.lemmas.Option.{slice_get-get_or, get_or_from_slice_get}
 use Rattle.linearize_check_layout.proofs.Risings.{rising-skips, rising-lists, rising-all}

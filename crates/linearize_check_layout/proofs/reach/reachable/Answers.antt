@@ -1,3 +1,4 @@
+-- Why `reachable` meets its clause `reached`, its loop over `node` keeps the invariant, and it may call `visit`.
 use Rattle.std.proofs.Common.{◌≡◌, length, ap, subst, ◌∙◌, arith, Some, true, ◌++◌}
 use Rattle.std.specs.Prelude.{slice_get}
 use Rattle.std.proofs.lemmas.List.{length-replicate, nil_from_length}

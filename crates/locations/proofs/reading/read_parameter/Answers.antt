@@ -1,3 +1,4 @@
+-- Why `read_parameter` meets its contract.
 use Rattle.std.proofs.Common.{◌≡◌, refl}
 use Rattle.locations.specs.declared.location.Location.{Location}
 use Rattle.locations.specs.declared.location.Location.TheVariants.{InRegister, InSlot}

@@ -1,5 +1,6 @@
+-- Why `read_function` may call `new`.
 use Rattle.std.proofs.Common.{ℕ, List}
-use Rattle.locations.specs.declared.location.Location.{Location}
+use Rattle.machine.specs.Location.{Location}
 use Rattle.ltl.specs.declared.block.Block.{Block}
 use Rattle.lang_base.proofs.Forms.{AreBytes, AreBytes-rest}
 use Rattle.lang_base.proofs.Parts.{byte_form}

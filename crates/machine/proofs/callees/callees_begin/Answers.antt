@@ -1,3 +1,4 @@
+-- Why `callees_begin` meets its clauses `parameters`, `others`, `globals` and `output`.
 use Rattle.machine.proofs.Words.{entered-parameters, entered-others, entered-globals, entered-output}
 use Rattle.machine.proofs.callees.callees_begin.Goals as goal
 

@@ -1,3 +1,4 @@
+-- Why `callers_go_on` meets its clauses `lost`, `kept`, `result`, `others` and 2 more.
 use Rattle.std.proofs.Common.{◌≡◌, ℕ, ◌<◌, Option, None, Some, refl, sym, subst}
 use Rattle.locations.specs.declared.location.Location.{Location}
 use Rattle.locations.specs.declared.location.Location.TheVariants.{InRegister, InSlot}

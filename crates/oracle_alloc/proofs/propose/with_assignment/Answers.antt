@@ -1,3 +1,4 @@
+-- Why `with_assignment` may call `new`.
 use Rattle.std.proofs.Common.{◌≡◌, ℕ, length, sym, subst, refl, ap, ◌∙◌, arith, All}
 use Rattle.std.proofs.lemmas.List.Elements.{recursion_from_All, All-same}
 use Rattle.locations.specs.Fits.{LocationFits, AreDistinct}

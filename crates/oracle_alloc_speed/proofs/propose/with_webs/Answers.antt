@@ -1,3 +1,4 @@
+-- Why `with_webs` may call `with_assignment`.
 use Rattle.std.proofs.Common.{length, sym, subst, ◌∙◌, All}
 use Rattle.std.proofs.lemmas.List.Elements.{All-from_recursion}
 use Rattle.rtl_language.specs.Function.{InstructionFits}

@@ -1,3 +1,4 @@
+-- Why `shortened` meets what its body asks for.
 use Rattle.std.proofs.Common.{arith}
 use Rattle.std.proofs.lemmas.List.{length-take}
 use Rattle.oracle_facts.proofs.lattice.shortened.Goals as goal

@@ -1,3 +1,4 @@
+-- Why the loop of `all_renamed` over `n` keeps the invariant.
 use Rattle.std.proofs.Common.{sym, subst, arith}
 use Rattle.std.proofs.lemmas.List.{length_push}
 use Rattle.std.proofs.lemmas.List.Elements.{All-push}

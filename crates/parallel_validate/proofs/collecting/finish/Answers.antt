@@ -1,3 +1,4 @@
+-- Why the loop of `finish` over `number` keeps the invariant.
 use Rattle.std.proofs.Common.{suc, take, sym, subst, rules}
 use native.Mathlib.Numerals.{unary_clauses}
 use Rattle.parallel_validate.specs.Verdicts.{AreAnswers}

@@ -1,5 +1,5 @@
 use Rattle.std.proofs.Common.{◌≡◌, ◌≤◌}
-use Rattle.paxos_core_law.specs.Notes.{has_voted}
+use Rattle.paxos_core_late_offers.specs.Notes.{has_voted}
 use Rattle.paxos_core_world.specs.Quorum.{count_below}
 use Rattle.paxos_core.proofs.tally.count_votes.Given as goal
 

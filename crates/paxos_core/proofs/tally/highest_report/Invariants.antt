@@ -1,5 +1,5 @@
 use Rattle.std.proofs.Common.{◌≡◌}
-use Rattle.paxos_core_law.specs.Notes.{highest_below}
+use Rattle.paxos_core_late_offers.specs.Notes.{highest_below}
 use Rattle.paxos_core.proofs.tally.highest_report.Given as goal
 
 -- of the nodes so far

@@ -1,3 +1,4 @@
+-- Why `agreement` meets its clauses `calls`, `nodes`, `shown`, `from_quorum` and 1 more.
 use Rattle.paxos_core.proofs.QuorumLemmas.{learns_from_quorum, quorum_is_learned}
 use Rattle.paxos_core.proofs.ScheduleLemmas.{plays, learns_one, shows}
 use Rattle.paxos_core.proofs.theorem.agreement.Goals as goal

@@ -1,3 +1,4 @@
+-- Why `crash_of_all` meets its clauses `runs`, `settled`, `learned` and `journals`.
 use Rattle.paxos_core_crash.proofs.CrashLemmas.{crashes_are_runs, crashes_leave_settled, crashes_learn_as_before}
 use Rattle.paxos_core_crash.proofs.JournalLemmas.{journals_are_recorded}
 use Rattle.paxos_core_crash.proofs.law.crash_of_all.Goals as goal

@@ -1,3 +1,4 @@
+-- Why `invariant_holds` meets its clauses `opens` and `kept`.
 use Rattle.paxos_core_invariant.proofs.Keeps.{keeps}
 use Rattle.paxos_core_invariant.proofs.Opens.{opens}
 use Rattle.paxos_core_invariant.proofs.law.invariant_holds.Goals as goal

@@ -1,3 +1,4 @@
+-- Why `late_offers` meets its clauses `calls` and `others`.
 use Rattle.paxos_core_late_offers.proofs.LateLemmas.{offers_may_be_late, others_leave_it}
 use Rattle.paxos_core_late_offers.proofs.theorem.late_offers.Goals as goal
 

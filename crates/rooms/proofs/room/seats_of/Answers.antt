@@ -1,3 +1,4 @@
+-- Why `seats_of` meets its clauses `refused` and `ok`, its loop over `node` keeps the invariant, and it may call `next_seat`.
 use Rattle.std.proofs.Common.{◌≡◌, ℕ, ◌+◌, ◌<◌, true, not, List, length, length-set, is_ok, sym, ap, ◌∙◌, subst, arith}
 use Rattle.std.specs.Arc.{arc_value}
 use Rattle.rooms_seat.specs.Dealing.{Dealing}

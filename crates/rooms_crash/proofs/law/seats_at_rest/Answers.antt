@@ -1,3 +1,4 @@
+-- Why `seats_at_rest` meets its clauses `left`, `opened`, `held` and `learned`.
 use Rattle.rooms_crash.proofs.Holding.{held_is_recorded}
 use Rattle.rooms_crash.proofs.Resting.{learns_again, opened_rest, rest_leaves}
 use Rattle.rooms_crash.proofs.law.seats_at_rest.Goals as goal

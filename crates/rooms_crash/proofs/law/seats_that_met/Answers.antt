@@ -1,3 +1,4 @@
+-- Why `seats_that_met` meets its contract.
 use Rattle.rooms_crash.proofs.Joining.{meetings_join}
 use Rattle.rooms_crash.proofs.law.seats_that_met.Goals as goal
 

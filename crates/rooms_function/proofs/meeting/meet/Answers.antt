@@ -1,3 +1,4 @@
+-- Why `meet` may call `meet`.
 use denote.Param.Send.{sendable}
 use Rattle.rooms_function.proofs.Sent.{function_send, function_sync}
 use Rattle.rooms_function.proofs.meeting.meet.Goals as goal

@@ -1,3 +1,4 @@
+-- Why `four_dealers` meets its contract, and it may call `open_four`.
 use Rattle.std.proofs.Common.{◌≡◌, ℕ, ◌≤◌, take, sym, subst, ◌∙◌, arith}
 use Rattle.rooms_function.proofs.Passes.{row_is, dealers_ok, settled_row}
 use Rattle.rooms_function.proofs.opening.four_dealers.Goals as goal

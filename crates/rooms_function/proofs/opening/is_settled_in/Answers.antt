@@ -1,3 +1,4 @@
+-- Why `is_settled_in` meets its contract.
 use Rattle.std.proofs.Common.{◌≡◌, ℕ, ◌≤◌, ◌↔◌, List, IsTrue, ap, sym, subst, ◌∙◌}
 use Rattle.paxos_core_world.specs.KeptPart.{KeptPart}
 use Rattle.paxos_core_world.specs.Settled.{Settled}

@@ -1,3 +1,4 @@
+-- Why `seats_of_all` may call `seats_of` and `node_by_node`.
 use denote.Param.Send.{sendable}
 use Rattle.std.proofs.Common.{◌∙◌, sym}
 use Rattle.rooms_function.proofs.Passes.{dealt_many}

@@ -1,3 +1,4 @@
+-- Why the loop of `unsettled_pass` over `pass` keeps the invariant.
 use Rattle.rooms_function.proofs.Passes.{in_front}
 use Rattle.rooms_function.proofs.opening.unsettled_pass.Goals as goal
 

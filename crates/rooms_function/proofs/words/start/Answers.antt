@@ -1,4 +1,5 @@
-use Rattle.rooms_state.proofs.Told.{acted_start}
+-- Why `start` meets its clause `acted`.
+use Rattle.rooms.proofs.Told.{acted_start}
 use Rattle.rooms_function.proofs.words.start.Goals as goal
 
 pub returns-clause-acted : goal.returns-clause-acted

@@ -1,3 +1,4 @@
+-- Why `meet` meets its clauses `strangers` and `numbers`.
 use Rattle.std.proofs.Common.{◌≡◌, ◌≢◌, Bool, subst}
 use Rattle.std.specs.Prelude.{MatchBool}
 use Rattle.rooms_numbered.proofs.Same.{strangers, told_apart, told_one}

@@ -1,3 +1,4 @@
+-- Why `claim_for` meets its contract.
 use Rattle.std.proofs.Common.{◌≡◌, ap, ◌∙◌}
 use Rattle.rooms_hall.specs.Claimed.{Claimed}
 use Rattle.rooms_hall.specs.RoomId.{RoomId}

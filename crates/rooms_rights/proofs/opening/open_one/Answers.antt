@@ -1,3 +1,4 @@
+-- Why `open_one` may call `of_words`.
 use Rattle.rooms_table.proofs.Opening.{opens_so}
 use Rattle.rooms_rights.proofs.opening.open_one.Goals as goal
 

@@ -1,6 +1,7 @@
+-- Why the loop of `opening_words` over `pair` keeps the invariant, and it may call `acceptor_word`.
 use Rattle.std.proofs.Common.{ℕ, ◌<◌, ◌≤◌, None, IfSome, sym, subst, arith}
 use Rattle.paxos_core_world.specs.KeptPart.{KeptPart}
-use Rattle.rooms_rule.specs.Words.{IsAcceptorWord, IsProposerWord, IsVoteInWord}
+use Rattle.rooms_steps.specs.Words.{IsAcceptorWord, IsProposerWord, IsVoteInWord}
 use Rattle.rooms_table.proofs.Opening.{one_more}
 use Rattle.rooms_rights.proofs.Openings.{part_fits}
 use Rattle.rooms_rights.proofs.opening.opening_words.Goals as goal

@@ -1,3 +1,4 @@
+-- Why `look` may call `load`.
 use Rattle.std.proofs.Common.{refl}
 use Rattle.rooms_rights.proofs.Sweeping.{may_after_proposer, may_look_acceptor, may_look_proposer}
 use Rattle.rooms_rights.proofs.rights.look.Goals as goal

@@ -1,9 +1,10 @@
+-- Why `meet` meets its clauses `met` and `same`, and it may call `hear`.
 use Rattle.std.proofs.Common.{◌≡◌, sym, ap, ◌∙◌, subst}
-use Rattle.rooms_met.specs.Met.{told_by}
-use Rattle.rooms_met.proofs.Looked.{same_table}
-use Rattle.rooms_met.proofs.Meetings.{have_met, met_agree}
+use Rattle.rooms_meeting.specs.Met.{told_by}
+use Rattle.rooms_meeting.proofs.Looked.{same_table}
+use Rattle.rooms_meeting.proofs.Meetings.{have_met, met_agree}
 use Rattle.rooms_seat.specs.Meeting.{HaveMet}
-use Rattle.rooms_state.specs.SeatState.{SeatState}
+use Rattle.rooms_meeting.specs.SeatState.{SeatState}
 use Rattle.rooms_seat.proofs.meeting.meet.Goals as goal
 
 pub hear-requires-2 : goal.hear-requires-2

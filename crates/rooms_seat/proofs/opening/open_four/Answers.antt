@@ -1,6 +1,7 @@
+-- Why `open_four` may call `open_four`.
 use Rattle.std.proofs.Common.{◌<◌, refl, sym, ap, ◌∙◌, subst}
-use Rattle.rooms_rule.specs.declared.view.Opening.{Opening}
-use Rattle.rooms_met.proofs.Openings.{four_open, some_node}
+use Rattle.rooms_words.specs.declared.view.Opening.{Opening}
+use Rattle.rooms_meeting.proofs.Openings.{four_open, some_node}
 use Rattle.rooms_seat.proofs.opening.open_four.Goals as goal
 
 pub open_four-requires : goal.open_four-requires

@@ -1,4 +1,5 @@
-use Rattle.rooms_state.proofs.Opened.{can_open}
+-- Why `opening_of` meets its clause `can`.
+use Rattle.rooms_meeting.proofs.Opened.{can_open}
 use Rattle.rooms_seat.proofs.opening.opening_of.Goals as goal
 
 pub returns-clause-can : goal.returns-clause-can

@@ -1,3 +1,4 @@
+-- Why `read_function` may call `new`.
 use Rattle.std.proofs.Common.{ℕ, List}
 use Rattle.rtl_language.specs.declared.instruction.Instruction.{Instruction}
 use Rattle.lang_base.proofs.Forms.{AreBytes, AreBytes-rest}

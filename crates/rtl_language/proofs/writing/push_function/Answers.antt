@@ -1,3 +1,4 @@
+-- Why `push_function` may call `push_frame` and `push_each`.
 use Rattle.std.proofs.Common.{ap, ◌∙◌, arith, length}
 use Rattle.rtl_language.proofs.Short.{all_short}
 use Rattle.rtl_language.proofs.writing.push_function.Goals as goal

@@ -1,3 +1,4 @@
+-- Why `with_nodes` may call `new`.
 use Rattle.std.proofs.Common.{length, sym, subst, arith}
 use Rattle.std.specs.List.{AllByRecursion}
 use Rattle.std.proofs.lemmas.List.Elements.{recursion_from_All}

@@ -1,3 +1,4 @@
+-- Why `unchanged` meets its clause `accepted`.
 use Rattle.rtl_passes_filled.proofs.Marked.{AreCarried}
 use Rattle.rtl_passes_filled.proofs.Shapes.{none_accepted}
 use Rattle.rtl_passes_facts.proofs.base.unchanged.Goals as goal

@@ -1,3 +1,4 @@
+-- Why `carry` may call `put_in`.
 use Rattle.rtl_passes_filled.proofs.Carrying.{rise_filter}
 use Rattle.rtl_passes_facts.proofs.carry.carry.Goals as goal
 

@@ -1,3 +1,4 @@
+-- Why `first_from` meets its contract.
 use Rattle.std.proofs.Common.{ltb, rules}
 use Rattle.std.proofs.lemmas.List.Sorted.{IsPartitionPoint-from_clause}
 use Rattle.rtl_passes_filled.proofs.Places.{lower_first, first_at}

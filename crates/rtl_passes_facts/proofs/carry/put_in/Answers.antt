@@ -1,3 +1,4 @@
+-- Why `put_in` meets its contract.
 use Rattle.std.proofs.Common.{◌≡◌, ◌<◌, length, get_or, sym, ap, ◌∙◌, arith}
 use Rattle.std.proofs.lemmas.List.{get_or_default}
 use Rattle.rtl_passes_filled.proofs.Places.{put_is_insert, put_is_set}

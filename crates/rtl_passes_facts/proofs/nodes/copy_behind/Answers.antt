@@ -1,3 +1,4 @@
+-- Why `copy_behind` meets its contract.
 use Rattle.std.proofs.Common.{sym}
 use Rattle.rtl_passes_marks.specs.Edges.{edges_of}
 use Rattle.rtl_passes_marks.proofs.Handings.{handed_none}

@@ -1,3 +1,4 @@
+-- Why `lowest_wrong` meets its contract, its loop over `n` keeps the invariant, and it may call `turn`.
 use Rattle.std.proofs.Common.{◌≡◌, ◌+◌, ◌<◌, length, drop, refl, sym, ap, ◌∙◌, subst, arith}
 use Rattle.std.proofs.lemmas.Bool.{iff_false}
 use Rattle.std.proofs.lemmas.List.{take_at}

@@ -1,5 +1,6 @@
+-- Why `check` meets its contract.
 use Rattle.std.proofs.Common.{length}
-use Rattle.rtl_passes.proofs.Verdicts.{told-exact}
+use Rattle.rtl_passes_marks.proofs.Verdicts.{told-exact}
 use Rattle.rtl_passes_filled.specs.Rules.{IsRightAt}
 use Rattle.rtl_passes_filled.specs.Filled.{filled_in}
 use Rattle.rtl_passes_filled.specs.Accepted.{HasShape}

@@ -1,7 +1,8 @@
+-- Why `why` meets its contract.
 use Rattle.std.proofs.Common.{◌≡◌, length, sym, subst, rules}
 use Rattle.std.specs.Option.{option_map}
 use Rattle.lang_base.specs.declared.fault.Fault.TheVariants.{Node}
-use Rattle.rtl_passes.proofs.Verdicts.{tells-lowest}
+use Rattle.rtl_passes_marks.proofs.Verdicts.{tells-lowest}
 use Rattle.rtl_passes_filled.specs.Rules.{IsRightAt}
 use Rattle.rtl_passes_filled.specs.Filled.{filled_in}
 use Rattle.rtl_passes_filled.specs.Accepted.{HasShape, TellsWhy}

@@ -1,3 +1,4 @@
+-- Why `are_known` meets its contract.
 use Rattle.std.proofs.Common.{get_or}
 use Rattle.rtl_passes_facts.proofs.walk.are_known.Goals as goal
 

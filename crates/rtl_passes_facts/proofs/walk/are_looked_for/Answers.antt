@@ -1,3 +1,4 @@
+-- Why `are_looked_for` meets its contract, and its loop over `fact` keeps the invariant.
 use Rattle.std.proofs.lemmas.Bool.{iff_false}
 use Rattle.rtl_passes_filled.proofs.Rising.{left_on, unknown_here}
 use Rattle.rtl_passes_facts.proofs.walk.are_looked_for.Goals as goal

@@ -1,3 +1,4 @@
+-- Why the loop of `behind_front` over `left` keeps the invariant.
 use Rattle.std.proofs.Common.{◌≡◌, ◌<◌, ◌-◌, List, length, get_or, drop, take, sym, ap, ◌∙◌, subst, arith, true, rules}
 use Rattle.std.proofs.lemmas.List.{take_all, length-drop}
 use Rattle.rtl_passes_filled.proofs.Rising.{IsBehind, behind_both}

@@ -1,3 +1,4 @@
+-- Why `write_certificate` may call `write_rows`.
 use Rattle.rtl_passes_facts.proofs.Shorts.{short_rows}
 use Rattle.rtl_passes_facts.proofs.writing.write_certificate.Goals as goal
 

@@ -1,3 +1,4 @@
+-- Why `feeders_of` meets its contract.
 use Rattle.std.proofs.Common.{◌≡◌, length, replicate, ap, ◌∙◌}
 use Rattle.std.proofs.lemmas.Result.{IfOk-weaker}
 use Rattle.rtl_passes_marks.specs.declared.marks.Came.TheVariants.{Never}

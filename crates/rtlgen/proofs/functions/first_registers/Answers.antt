@@ -1,3 +1,4 @@
+-- Why the loop of `first_registers` over `number` keeps the invariant.
 use Rattle.std.proofs.Common.{◌≡◌, ◌+◌, [], ◌∷◌, ◌++◌, sym, ap, add-one, ◌∙◌, arith}
 use Rattle.rtlgen_definition.specs.Gen.{numbers_from}
 use Rattle.rtlgen.proofs.Made.{numbers_more}

@@ -1,3 +1,4 @@
+-- Why `translate_function` may call `new`.
 use Rattle.std.proofs.Common.{◌≡◌, ◌+◌, sym, ap, subst, ◌∙◌}
 use Rattle.rtl_language.specs.Function.{IsFunction}
 use Rattle.rtlgen_definition.specs.Gen.{gen_function, numbers_from, statement_needs}

@@ -1,3 +1,4 @@
+-- Why `are_in_range` meets its contract, and its loop over `named` keeps the invariant.
 use Rattle.std.proofs.Common.{subst}
 use Rattle.std.specs.Prelude.{All}
 use Rattle.std.proofs.lemmas.List.Elements.{All-more}

@@ -1,3 +1,4 @@
+-- Why `translate_functions` meets its clauses `err` and `few`, and its loop over `number` keeps the invariant.
 use Rattle.std.proofs.Common.{subst}
 use Rattle.std.specs.Prelude.{All}
 use Rattle.std.proofs.lemmas.List.Elements.{All-more}

@@ -1,3 +1,4 @@
+-- Why `+ends_with_value` meets its contract.
 use Rattle.std.proofs.Common.{◌≡◌, sym, ap, ◌∙◌}
 use Rattle.cminor_syntax.specs.Trees as T
 use Rattle.cminor_syntax.specs.Views.{statement_tree, statements_tree}

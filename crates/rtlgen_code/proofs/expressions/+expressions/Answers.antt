@@ -1,3 +1,4 @@
+-- Why `+expressions` meets what its body asks for.
 use Rattle.std.proofs.Common.{◌≡◌, ◌+◌, suc, sym, ap, subst, add-one, ◌∙◌}
 use Rattle.std.specs.Prelude.{IfOk}
 use Rattle.cminor_syntax.specs.Trees as T

@@ -1,3 +1,4 @@
+-- Why `+add_operands` meets its contract, and it may call `add_operands`.
 use Rattle.std.proofs.Common.{◌<◌, ◌+◌, length, map, sym, subst, add-one, arith}
 use Rattle.std.specs.Prelude.{IfOk}
 use Rattle.cminor_syntax.specs.Views.{expression_tree}

@@ -1,3 +1,4 @@
+-- Why `add_put` meets its contract.
 use Rattle.cminor_syntax.specs.Views.{expression_tree}
 use Rattle.rtlgen_code.proofs.StatementArms.{put_added}
 use Rattle.rtlgen_code.proofs.plain.add_put.Goals as goal

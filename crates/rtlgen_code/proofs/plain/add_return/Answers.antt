@@ -1,3 +1,4 @@
+-- Why `add_return` meets its contract.
 use Rattle.std.proofs.Common.{[], sym, subst}
 use Rattle.std.specs.Prelude.{IfOk}
 use Rattle.cminor_syntax.specs.Trees as T

@@ -1,3 +1,4 @@
+-- Why `add_store` meets its contract.
 use Rattle.std.proofs.Common.{ap, subst, add-one, ◌∙◌}
 use Rattle.cminor_syntax.specs.Views.{expression_tree}
 use Rattle.rtlgen_definition.specs.Gen.{operand, operand_register}

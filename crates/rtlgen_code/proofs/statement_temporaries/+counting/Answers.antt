@@ -1,3 +1,4 @@
+-- Why `+counting` may call `statement_needs`.
 use Rattle.std.proofs.Common.{◌≡◌, ◌<◌, sym, ap, subst, ◌∙◌}
 use Rattle.cminor_syntax.specs.Trees as T
 use Rattle.cminor_syntax.specs.Views.{statement_tree, statements_tree}

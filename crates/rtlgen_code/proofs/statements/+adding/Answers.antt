@@ -1,3 +1,4 @@
+-- Why `+adding` may call `add_statement`.
 use Rattle.std.proofs.Common.{◌≡◌, ◌<◌, ◌+◌, sym, ap, subst, ◌∙◌}
 use Rattle.std.specs.Prelude.{IfOk, reverse}
 use Rattle.cminor_syntax.specs.Trees as T

@@ -1,3 +1,4 @@
+-- Why `each_has_few` meets its contract.
 use Rattle.rtlgen_code.proofs.Rows.{each_few}
 use Rattle.rtlgen_code.proofs.statements.each_has_few.Goals as goal
 

@@ -1,3 +1,4 @@
+-- Why `+operands_need` may call `operands_need`.
 use Rattle.std.proofs.Common.{◌<◌, length, map, subst, arith}
 use Rattle.cminor_syntax.specs.Views.{expression_tree}
 use Rattle.rtlgen_definition.specs.Gen.{operands_need}

@@ -1,3 +1,4 @@
+-- Why `+statement` meets what its body asks for.
 use Rattle.std.proofs.Common.{◌≡◌, List, ◌++◌, sym, ap, subst, ◌∙◌}
 use Rattle.std.proofs.lemmas.Result.{err_from_is_err_and}
 use Rattle.lang_base.specs.Texts.{Appends}

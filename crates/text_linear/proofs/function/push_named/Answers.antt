@@ -1,12 +1,13 @@
+-- Why `push_named` meets its contract.
 use Rattle.std.proofs.Common.{[], ◌∷◌, ◌++◌, ap, ◌∙◌, subst}
 use Rattle.lang_base.specs.Texts.{Appends}
-use Rattle.text_words.specs.Lines.{spaced, line_end}
-use Rattle.text_words.specs.Names.{named_head}
-use Rattle.text_words.proofs.Appending.{function_written}
+use Rattle.text_keys.specs.Lines.{spaced, line_end}
+use Rattle.text_keys.specs.Names.{named_head}
+use Rattle.text_keys.proofs.Appending.{function_written}
 use Rattle.std.specs.List.{flat_map}
-use Rattle.text_words.specs.declared.key.Key.TheVariants as key
-use Rattle.text_words.specs.declared.word.Word.TheVariants as word
-use Rattle.text_acts.specs.Acts.{location_word}
+use Rattle.text_keys.specs.declared.key.Key.TheVariants as key
+use Rattle.text_keys.specs.declared.word.Word.TheVariants as word
+use Rattle.text_common.specs.Acts.{location_word}
 use Rattle.text_linear.specs.Shown.{size_words, shown_instruction, shown_code}
 use Rattle.text_linear.proofs.function.push_named.Goals as goal
 

@@ -1,10 +1,11 @@
+-- Why `push_named` meets its contract.
 use Rattle.std.proofs.Common.{◌++◌, ap, ◌∙◌, subst}
 use Rattle.lang_base.specs.Texts.{Appends}
-use Rattle.text_words.specs.Lines.{spaced, line_end}
-use Rattle.text_words.specs.Names.{named_head}
-use Rattle.text_words.proofs.Appending.{function_written}
-use Rattle.text_words.specs.Numbered.{numbered_text}
-use Rattle.text_acts.specs.Acts.{location_word}
+use Rattle.text_keys.specs.Lines.{spaced, line_end}
+use Rattle.text_keys.specs.Names.{named_head}
+use Rattle.text_keys.proofs.Appending.{function_written}
+use Rattle.text_keys.specs.Numbered.{numbered_text}
+use Rattle.text_common.specs.Acts.{location_word}
 use Rattle.text_ltl.specs.Shown.{size_words, shown_block, shown_blocks}
 use Rattle.text_ltl.proofs.function.push_named.Goals as goal
 

@@ -1,12 +1,13 @@
+-- Why `push_size` meets its contract.
 use Rattle.std.proofs.Common.{ℕ, List, [], ◌∷◌, ◌++◌, sym, ap, ◌∙◌, subst}
 use Rattle.lang_base.specs.Texts.{Appends}
-use Rattle.text_words.specs.declared.key.Key.{Key}
-use Rattle.text_words.specs.declared.key.Key.TheVariants as key
-use Rattle.text_words.specs.declared.word.Word.{Word}
-use Rattle.text_words.specs.declared.word.Word.TheVariants as word
-use Rattle.text_words.specs.Lines.{spaced}
-use Rattle.text_words.proofs.Appending.{appends_behind}
-use Rattle.text_words.proofs.Lines.{spaced-append}
+use Rattle.text_keys.specs.declared.key.Key.{Key}
+use Rattle.text_keys.specs.declared.key.Key.TheVariants as key
+use Rattle.text_keys.specs.declared.word.Word.{Word}
+use Rattle.text_keys.specs.declared.word.Word.TheVariants as word
+use Rattle.text_keys.specs.Lines.{spaced}
+use Rattle.text_keys.proofs.Appending.{appends_behind}
+use Rattle.text_keys.proofs.Lines.{spaced-append}
 use Rattle.text_ltl.proofs.function.push_size.Goals as goal
 
 -- a key and its number

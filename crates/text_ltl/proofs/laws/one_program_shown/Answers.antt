@@ -1,3 +1,4 @@
+-- Why `one_program_shown` meets its contract.
 use Rattle.text_ltl.proofs.laws.one_program_shown.Goals as goal
 use Rattle.text_ltl.proofs.Programs.{one_program}
 

@@ -1,6 +1,7 @@
+-- Why `push_expressions` meets its contract.
 use Rattle.std.proofs.Common.{codes, subst}
 use Rattle.lang_base.specs.Texts.{Appends}
-use Rattle.text_words.proofs.Appending.{function_written}
+use Rattle.text_keys.proofs.Appending.{function_written}
 use Rattle.text_rtl.specs.Shown as rtl
 use Rattle.text_offers.specs.Entries.{equation_words}
 use Rattle.text_offers.specs.Lines.{rows_lines}

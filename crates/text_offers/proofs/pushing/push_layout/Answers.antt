@@ -1,6 +1,7 @@
+-- Why `push_layout` meets its contract.
 use Rattle.std.proofs.Common.{codes, subst}
 use Rattle.lang_base.specs.Texts.{Appends}
-use Rattle.text_words.proofs.Appending.{function_written}
+use Rattle.text_keys.proofs.Appending.{function_written}
 use Rattle.text_ltl.specs.Shown as ltl
 use Rattle.text_linear.specs.Shown as linear
 use Rattle.text_offers.specs.Lines.{order_line}

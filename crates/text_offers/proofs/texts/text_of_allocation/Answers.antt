@@ -1,3 +1,4 @@
+-- Why `text_of_allocation` meets its clause `ok`.
 use Rattle.std.proofs.Common.{◌++◌, ap, ◌∙◌}
 use Rattle.text_offers.specs.Shown.{shown_allocation}
 use Rattle.text_offers.specs.Files.{OfAllocation}

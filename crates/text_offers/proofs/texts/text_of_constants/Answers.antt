@@ -1,3 +1,4 @@
+-- Why `text_of_constants` meets its clause `ok`.
 use Rattle.std.proofs.Common.{◌++◌, ap, ◌∙◌}
 use Rattle.text_offers.specs.Shown.{shown_constants}
 use Rattle.text_offers.specs.Files.{OfConstants}

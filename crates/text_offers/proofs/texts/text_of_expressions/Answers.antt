@@ -1,3 +1,4 @@
+-- Why `text_of_expressions` meets its clause `ok`.
 use Rattle.std.proofs.Common.{◌++◌, ap, ◌∙◌}
 use Rattle.text_offers.specs.Shown.{shown_expressions}
 use Rattle.text_offers.specs.Files.{OfExpressions}

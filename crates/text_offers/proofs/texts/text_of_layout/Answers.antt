@@ -1,3 +1,4 @@
+-- Why `text_of_layout` meets its clause `ok`.
 use Rattle.std.proofs.Common.{◌++◌, ap, ◌∙◌}
 use Rattle.text_offers.specs.Shown.{shown_layout}
 use Rattle.text_offers.specs.Files.{OfLayout}

@@ -1,9 +1,10 @@
+-- Why `push_named` meets its contract.
 use Rattle.std.proofs.Common.{◌++◌, ap, ◌∙◌, subst}
 use Rattle.lang_base.specs.Texts.{Appends}
-use Rattle.text_words.specs.Lines.{spaced, line_end}
-use Rattle.text_words.specs.Names.{named_head}
-use Rattle.text_words.proofs.Appending.{function_written}
-use Rattle.text_words.specs.Numbered.{numbered_text}
+use Rattle.text_keys.specs.Lines.{spaced, line_end}
+use Rattle.text_keys.specs.Names.{named_head}
+use Rattle.text_keys.proofs.Appending.{function_written}
+use Rattle.text_keys.specs.Numbered.{numbered_text}
 use Rattle.text_rtl.specs.Acts.{register_word}
 use Rattle.text_rtl.specs.Shown.{size_words, shown_node, shown_nodes}
 use Rattle.text_rtl.proofs.function.push_named.Goals as goal

@@ -1,3 +1,4 @@
+-- Why `lives` may call `back_over`.
 use Rattle.std.proofs.Common.{◌∙◌}
 use Rattle.worked_farm.proofs.Thirds.{has_nodes}
 use Rattle.worked_farm.proofs.failing.lives.Goals as goal

@@ -1,3 +1,4 @@
+-- Why `stranger_told` may call `refused_over` and `back_over`.
 use Rattle.std.proofs.Common.{◌∙◌}
 use Rattle.worked_farm.proofs.Thirds.{has_nodes}
 use Rattle.worked_farm.proofs.stranger.stranger_told.Goals as goal

@@ -1,3 +1,4 @@
+-- Why `open_three` meets its clause `third`.
 use Rattle.std.proofs.Common.{map}
 use Rattle.worked_farm.proofs.Thirds.{third_opened}
 use Rattle.worked_farm.proofs.turning.open_three.Goals as goal

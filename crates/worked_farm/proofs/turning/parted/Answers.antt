@@ -1,5 +1,6 @@
+-- Why `parted` meets its clauses `last` and `third`.
 use Rattle.std.proofs.Common.{arith}
-use Rattle.farm_nodes_node.specs.Asked.{MayBeAsked}
+use Rattle.farm_nodes_turn_node.specs.Asked.{MayBeAsked}
 use Rattle.worked_farm.proofs.Thirds.{all_apart, third_last}
 use Rattle.worked_farm.proofs.turning.parted.Goals as goal
 

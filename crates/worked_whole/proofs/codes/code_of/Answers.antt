@@ -1,6 +1,6 @@
 -- Functions of the last pass may be sent to other threads.
 use denote.Param.Send.{sendable}
-use Rattle.rooms_function.proofs.Sent.{function_send, function_sync}
+use Rattle.farm_nodes.proofs.Sent.{function_send, function_sync}
 use Rattle.worked_whole.proofs.codes.code_of.Goals as goal
 
 pub learned_offer-requires-send-P-In-Fun : goal.learned_offer-requires-send-P-In-Fun

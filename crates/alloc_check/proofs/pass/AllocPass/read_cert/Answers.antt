@@ -1,9 +1,10 @@
+-- Why `read_cert` meets its clauses `refused`, `fits` and `front`.
 use Rattle.std.proofs.Common.{◌≡◌, ◌≤◌, ◌^◌, length, sym, ap, subst, ◌∙◌, arith}
 use Rattle.std.proofs.lemmas.Result.{err_from_is_err_and}
 use Rattle.lang_base.proofs.Forms.{front_is, no_text}
 use Rattle.rtl_passes_marks.specs.RowForm.{RowsFit}
 use Rattle.alloc_check_rules.specs.Rules.{EquationFits}
-use Rattle.alloc_check_laws.specs.Text.{CertFits}
+use Rattle.alloc_check_verdict.specs.Text.{CertFits}
 use Rattle.alloc_check_verdict.proofs.Passed.{rows_of_equations}
 use Rattle.alloc_check.proofs.pass.AllocPass.read_cert.Goals as goal
 

@@ -1,3 +1,4 @@
+-- Why `bind` meets its clauses `err` and `ok`.
 use Rattle.std.proofs.Common.{◌∷◌, ap, ◌∙◌}
 use Rattle.std.proofs.lemmas.Result.{err_from_is_err_and}
 use Rattle.c_checker_scopes.specs.declared.binding.Entry.{Entry}

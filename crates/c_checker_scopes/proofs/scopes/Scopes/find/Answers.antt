@@ -1,3 +1,4 @@
+-- Why `find` meets its contract, and it may call `index`.
 use Rattle.std.proofs.Common.{Some, refl, sym, ap, subst, ◌<◌}
 use Rattle.c_checker_scopes.specs.Bound.{binding_of}
 use Rattle.c_checker_scopes.specs.Table.{names_of, bound_of}

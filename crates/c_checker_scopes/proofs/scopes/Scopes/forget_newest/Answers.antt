@@ -1,3 +1,4 @@
+-- Why what `forget_newest` leaves is in order.
 use Rattle.std.proofs.Common.{ap, subst, ◌∙◌}
 use Rattle.c_checker_scopes.specs.Table.{names_of, links_of, IsTable}
 use Rattle.c_checker_scopes.proofs.Tables.{less_entry, links_of-push}

@@ -1,3 +1,4 @@
+-- Why the loop of `shorten_to` over `self` keeps the invariant.
 use Rattle.std.proofs.Common.{◌≡◌, ◌+◌, ◌-◌, length, drop, ap, ◌∙◌, arith}
 use Rattle.std.proofs.lemmas.List.{drop-drop, length-drop}
 use Rattle.c_checker_scopes.proofs.scopes.Scopes.shorten_to.Goals as goal

@@ -1,3 +1,4 @@
+-- Why `note_call` meets its clauses `notes` and `time`.
 use Rattle.std.proofs.Common.{[], refl, ap, arith, ◌∙◌}
 use Rattle.durable_model_writes.specs.History.{noted}
 use Rattle.durable_model.proofs.Elapsed.{noted_elapses}

@@ -1,3 +1,4 @@
+-- Why `note_sync` meets its clause `unchanged`.
 use Rattle.std.proofs.Common.{ap, sym, ◌∙◌, subst}
 use Rattle.durable_model_writes.specs.History.{MayLeave}
 use Rattle.durable_model.specs.Memory.{history, left_as_kept}

@@ -1,3 +1,4 @@
+-- Why `note_write` meets its clauses `notes`, `time` and `crash`.
 use Rattle.std.proofs.Common.{rules, length, refl, ap, ◌∙◌, subst, length-append}
 use Rattle.durable_model_writes.specs.declared.call.Call.TheVariants.{Wrote}
 use Rattle.durable_model_writes.specs.History.{MayLeave}

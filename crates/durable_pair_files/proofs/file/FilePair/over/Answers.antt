@@ -1,3 +1,4 @@
+-- Why what `over` leaves is in order.
 use Rattle.durable_pair_held.specs.Held.{past_of}
 use Rattle.durable_pair_files.proofs.Lifted.{opened_new, opened_old}
 use Rattle.durable_pair_files.proofs.file.FilePair.over.Goals as goal

@@ -1,3 +1,4 @@
+-- Why `read_new` meets its clauses `does`, `honest`, `unchanged` and `time`.
 use Rattle.std.proofs.Common.{[], ap}
 use Rattle.durable_model_writes.specs.declared.call.Call.TheVariants.{Left}
 use Rattle.durable_pair_files.proofs.Lifted.{new_stays}

@@ -1,3 +1,4 @@
+-- Why what `sync_old_file` leaves is in order.
 use Rattle.std.proofs.Common.{[], true, subst}
 use Rattle.durable_model_writes.specs.declared.call.Call.TheVariants.{Synced}
 use Rattle.durable_pair_held.specs.Held.{past_of, CanNoteMore, syncs_due}

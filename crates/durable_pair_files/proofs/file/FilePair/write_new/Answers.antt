@@ -1,3 +1,4 @@
+-- Why `write_new` meets its clauses `honest`, `time`, `written`, `others` and 2 more.
 use Rattle.std.proofs.Common.{[], length, sym, subst}
 use Rattle.durable_model_writes.specs.declared.call.Call.TheVariants.{Wrote, Tore, Left}
 use Rattle.durable_model_writes.specs.Writes.{Torn, torn_nothing, torn_overwritten}

@@ -1,3 +1,4 @@
+-- Why `write_old_file` meets its clause `tore`.
 use Rattle.std.proofs.Common.{[], length, sym}
 use Rattle.durable_model_writes.specs.declared.call.Call.TheVariants.{Tore}
 use Rattle.durable_pair_held.specs.Held.{past_of, syncs_due}

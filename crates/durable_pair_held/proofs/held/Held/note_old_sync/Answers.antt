@@ -1,3 +1,4 @@
+-- Why `note_old_sync` meets its clause `does`.
 use Rattle.std.proofs.Common.{refl}
 use Rattle.durable_pair_held.specs.declared.noted.Noted.TheVariants.{Old}
 use Rattle.durable_pair_held.specs.declared.noted.Step.TheVariants.{Sync}

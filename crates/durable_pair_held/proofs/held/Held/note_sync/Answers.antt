@@ -1,3 +1,4 @@
+-- Why `note_sync` meets its clause `does`.
 use Rattle.std.proofs.Common.{refl}
 use Rattle.durable_pair_held.specs.declared.noted.Noted.TheVariants.{New}
 use Rattle.durable_pair_held.specs.declared.noted.Step.TheVariants.{Sync}

@@ -1,3 +1,4 @@
+-- Why `note_write` meets its clauses `done` and `stands`.
 use Rattle.std.specs.Prelude.{reverse}
 use Rattle.durable_pair_held.specs.declared.noted.Noted.TheVariants.{New}
 use Rattle.durable_pair_held.specs.Past.{Content}

@@ -1,3 +1,4 @@
+-- Why `read_former` meets its clause `left`.
 use Rattle.std.proofs.Common.{[], sym}
 use Rattle.durable_model_writes.specs.declared.call.Call.TheVariants.{Left}
 use Rattle.durable_pair_memory.proofs.Steps.{old_left, moves_lockstep}

@@ -1,3 +1,4 @@
+-- Why `read_new` meets its clauses `does`, `honest`, `unchanged` and `time`.
 use Rattle.std.proofs.Common.{[]}
 use Rattle.durable_model_writes.specs.declared.call.Call.TheVariants.{Left}
 use Rattle.durable_pair_memory.proofs.Steps.{new_left, moves_lockstep}

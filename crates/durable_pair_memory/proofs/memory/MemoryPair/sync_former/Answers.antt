@@ -1,3 +1,4 @@
+-- Why `sync_former` meets its clauses `done` and `left`.
 use Rattle.std.proofs.Common.{[], sym}
 use Rattle.durable_model_writes.specs.declared.call.Call.TheVariants.{Synced, Left}
 use Rattle.durable_pair.proofs.Results.{on_ok, on_err, either_way}

@@ -1,3 +1,4 @@
+-- Why `sync_new` meets its clauses `done`, `left`, `honest`, `time` and 2 more.
 use Rattle.std.proofs.Common.{[]}
 use Rattle.durable_model_writes.specs.declared.call.Call.TheVariants.{Synced, Left}
 use Rattle.durable_pair.proofs.Results.{on_ok, on_err, either_way}

@@ -1,3 +1,4 @@
+-- Why `write_former` meets its clauses `done`, `tore` and `left`.
 use Rattle.std.proofs.Common.{[], length, sym}
 use Rattle.durable_model_writes.specs.declared.call.Call.TheVariants.{Wrote, Tore}
 use Rattle.durable_pair.proofs.Results.{on_ok, each_way}

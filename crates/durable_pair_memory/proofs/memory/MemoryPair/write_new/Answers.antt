@@ -1,3 +1,4 @@
+-- Why `write_new` meets its clauses `done`, `tore`, `left`, `honest` and 5 more.
 use Rattle.std.proofs.Common.{[], length, refl, sym, subst}
 use Rattle.durable_model_writes.specs.Writes.{Torn, torn_overwritten}
 use Rattle.durable_model_writes.specs.declared.call.Call.TheVariants.{Wrote, Tore, Left}

@@ -1,3 +1,4 @@
+-- Why `open` meets its clauses `source` and `refused`.
 use Rattle.std.proofs.Common.{◌≡◌, sym, subst}
 use Rattle.farm_nodes.specs.Prepared.{IsSourceOf}
 use Rattle.farm_nodes.specs.Refused.{AreRefused}

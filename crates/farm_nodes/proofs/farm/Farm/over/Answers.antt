@@ -1,7 +1,8 @@
+-- Why `over` meets its clauses `fit` and `refused`, and it may call `open_nodes`.
 use Rattle.std.proofs.Common.{arith}
-use Rattle.farm_nodes_passes.specs.Fours.{fours_of}
-use Rattle.farm_nodes_node.specs.Held.{IsSoundNode}
-use Rattle.farm_nodes_node.specs.Waiting.{IsWaiting}
+use Rattle.farm_nodes_threads.specs.Fours.{fours_of}
+use Rattle.farm_nodes_link.specs.Held.{IsSoundNode}
+use Rattle.farm_nodes_link.specs.Waiting.{IsWaiting}
 use Rattle.farm_nodes.proofs.Fit.{all_both}
 use Rattle.farm_nodes.proofs.farm.Farm.over.Goals as goal
 

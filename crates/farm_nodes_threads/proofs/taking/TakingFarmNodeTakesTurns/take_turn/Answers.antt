@@ -1,11 +1,12 @@
+-- Why `take_turn` meets its clauses `fit`, `stays` and `turned`.
 use Rattle.std.proofs.Common.{◌≡◌, ◌<◌, length, sym, ap, ◌∙◌, subst}
 use Rattle.std.specs.Arc.{arc_value}
 use Rattle.lang_base.specs.declared.program.Program.{Program}
 use Rattle.rtl_language.specs.Function.{FunctionData}
-use Rattle.farm_nodes_passes.specs.Numbers.{function_of}
-use Rattle.farm_nodes_passes.specs.Fours.{four_of, fours_of}
-use Rattle.farm_nodes_turn.proofs.Places.{map_length, map_same}
-use Rattle.farm_nodes_passes.specs.Texts.{pass_texts}
+use Rattle.farm_nodes_turn_node.specs.Numbers.{function_of}
+use Rattle.farm_nodes_turn_node.specs.Fours.{four_of, fours_of}
+use Rattle.farm_nodes_turn_node.proofs.Places.{map_length, map_same}
+use Rattle.farm_nodes_turn_node.specs.Texts.{pass_texts}
 use Rattle.farm_nodes_threads.proofs.Coming.{came_once, keeps_at}
 use Rattle.farm_nodes_threads.proofs.taking.TakingFarmNodeTakesTurns.take_turn.Goals as goal
 

@@ -1,3 +1,4 @@
+-- Why `read` meets its clause `keeps`.
 use Rattle.std.proofs.Common.{◌+◌, sym, ap, ◌∙◌}
 use Rattle.lang.proofs.Forms.{cells_push}
 use Rattle.lang.proofs.globals.GlobalsReadOne.read.Goals as goal

@@ -1,3 +1,4 @@
+-- Why `read_cert` meets its clauses `refused`, `fits` and `front`.
 use Rattle.std.proofs.Common.{◌≡◌, ◌≤◌, ◌^◌, length, sym, ap, subst, ◌∙◌, arith}
 use Rattle.std.proofs.lemmas.Result.{err_from_is_err_and}
 use Rattle.lang_base.proofs.Forms.{front_is, no_text}

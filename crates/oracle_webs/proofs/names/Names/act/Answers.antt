@@ -1,3 +1,4 @@
+-- Why `act` meets its contract.
 use Rattle.oracle_webs.proofs.names.Names.act.Goals as goal
 
 pub returns-in-Operate : goal.returns-in-Operate

@@ -1,6 +1,7 @@
+-- Why `call` meets its contract.
 use Rattle.std.proofs.Common.{arith}
 use Rattle.std.proofs.lemmas.List.Elements.{recursion_from_All}
-use Rattle.rtl_parts.specs.Fits.{RegisterFits}
+use Rattle.rtl_acts.specs.Fits.{RegisterFits}
 use Rattle.oracle_webs.proofs.names.Names.call.Goals as goal
 
 pub returns : goal.returns

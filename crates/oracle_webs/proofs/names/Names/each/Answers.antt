@@ -1,7 +1,8 @@
+-- Why the loop of `each` over `register` keeps the invariant.
 use Rattle.std.proofs.Common.{arith}
 use Rattle.std.proofs.lemmas.List.{length_push}
 use Rattle.std.proofs.lemmas.List.Elements.{All-push}
-use Rattle.rtl_parts.specs.Fits.{RegisterFits}
+use Rattle.rtl_acts.specs.Fits.{RegisterFits}
 use Rattle.oracle_webs.proofs.names.Names.each.Goals as goal
 
 pub loop-register-preserved : goal.loop-register-preserved

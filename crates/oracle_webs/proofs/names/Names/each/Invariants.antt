@@ -1,5 +1,5 @@
 use Rattle.std.proofs.Common.{◌≡◌, length, All}
-use Rattle.rtl_parts.specs.Fits.{RegisterFits}
+use Rattle.rtl_acts.specs.Fits.{RegisterFits}
 use Rattle.oracle_webs.proofs.names.Names.each.Given as goal
 
 abbrev pub invariant-loop-register : goal.invariant-loop-register

@@ -1,3 +1,4 @@
+-- Why `renamed` meets its contract.
 use Rattle.std.proofs.Common.{List, sym, subst, ℕ}
 use Rattle.rtl_language.specs.Function as rtl_function
 use Rattle.oracle_webs.proofs.names.Names.renamed.Goals as goal

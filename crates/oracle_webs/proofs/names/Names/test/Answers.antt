@@ -1,3 +1,4 @@
+-- Why `test` meets its contract.
 use Rattle.oracle_webs.proofs.names.Names.test.Goals as goal
 
 pub returns : goal.returns

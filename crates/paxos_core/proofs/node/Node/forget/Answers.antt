@@ -1,5 +1,6 @@
+-- Why `forget` meets its clause `step`.
 use Rattle.std.proofs.Common.{rules}
-use Rattle.paxos_core_law.proofs.TakesLemmas.{forget_step}
+use Rattle.paxos_core_late_offers.proofs.TakesLemmas.{forget_step}
 use Rattle.paxos_core.proofs.node.Node.forget.Goals as goal
 
 pub returns-clause-step : goal.returns-clause-step

@@ -1,6 +1,7 @@
+-- Why `has_noted` meets its clause `same`.
 use Rattle.std.proofs.Common.{◌≡◌, subst, rules}
-use Rattle.paxos_core_law.specs.Learner.{after_vote}
-use Rattle.paxos_core_law.specs.NodeState.{NodeState}
+use Rattle.paxos_core_late_offers.specs.Learner.{after_vote}
+use Rattle.paxos_core_late_offers.specs.NodeState.{NodeState}
 use Rattle.paxos_core.proofs.LearnsLemmas.{noted_again}
 use Rattle.paxos_core.proofs.node.Node.has_noted.Goals as goal
 

@@ -1,6 +1,7 @@
+-- Why `note_vote` meets its clause `step`.
 use Rattle.std.proofs.Common.{None, refl, arith, rules}
 use Rattle.paxos_core_world.specs.declared.msg.Msg.TheVariants.{Accepted}
-use Rattle.paxos_core_law.proofs.TakesLemmas.{on_step}
+use Rattle.paxos_core_late_offers.proofs.TakesLemmas.{on_step}
 use Rattle.paxos_core.proofs.LearnsLemmas.{learns_no_more}
 use Rattle.paxos_core.proofs.node.Node.note_vote.Goals as goal
 

@@ -1,5 +1,6 @@
+-- Why `on` meets its clause `step`.
 use Rattle.std.proofs.Common.{rules}
-use Rattle.paxos_core_law.proofs.TakesLemmas.{on_step}
+use Rattle.paxos_core_late_offers.proofs.TakesLemmas.{on_step}
 use Rattle.paxos_core.proofs.node.Node.on.Goals as goal
 
 pub returns-in-Prepare-clause-step : goal.returns-in-Prepare-clause-step

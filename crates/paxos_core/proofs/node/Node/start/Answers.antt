@@ -1,5 +1,6 @@
+-- Why `start` meets its clauses `least`, `step` and `none_left`.
 use Rattle.std.proofs.Common.{rules}
-use Rattle.paxos_core_law.proofs.TakesLemmas.{ballots_spent, next_ballot_is, start_step}
+use Rattle.paxos_core_late_offers.proofs.TakesLemmas.{ballots_spent, next_ballot_is, start_step}
 use Rattle.paxos_core.proofs.node.Node.start.Goals as goal
 
 pub returns-in_default-clause-least : goal.returns-in_default-clause-least

@@ -1,3 +1,4 @@
+-- Why what `with` leaves is in order.
 use Rattle.std.proofs.Common.{None, rules}
 use Rattle.paxos_core.proofs.LearnsLemmas.{nothing_to_learn}
 use Rattle.paxos_core.proofs.node.Node.with.Goals as goal

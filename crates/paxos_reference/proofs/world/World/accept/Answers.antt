@@ -1,3 +1,4 @@
+-- Why `accept` may call `with_vote`.
 use Rattle.std.proofs.Common.{◌∙◌}
 use Rattle.std.proofs.Math.ListN.{length-set}
 use Rattle.paxos_reference.proofs.FromOne.{pushed_proposals}

@@ -1,3 +1,4 @@
+-- Why `is_safe_choice` meets its contract.
 use Rattle.std.proofs.Common.{rules}
 use Rattle.paxos_reference.specs.Listed.{world_of}
 use Rattle.paxos_reference.proofs.Choices.{adopted_is_safe, free_is_safe}

@@ -1,3 +1,4 @@
+-- Why `may_learn` meets its contract.
 use Rattle.std.proofs.Common.{rules}
 use Rattle.paxos_reference.specs.Listed.{world_of}
 use Rattle.paxos_reference.proofs.Choices.{chosen_tells}

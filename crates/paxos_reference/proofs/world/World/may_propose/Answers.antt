@@ -1,3 +1,4 @@
+-- Why `may_propose` meets its contract.
 use Rattle.std.proofs.Common.{ℕ, rules, IsTrue}
 use Rattle.paxos_core_world.specs.World.{Has}
 use Rattle.paxos_core_world.specs.declared.msg.Msg.TheVariants.{Propose}

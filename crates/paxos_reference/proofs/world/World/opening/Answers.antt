@@ -1,3 +1,4 @@
+-- Why what `opening` leaves is in order.
 use Rattle.std.proofs.Common.{length, subst, rules}
 use Rattle.paxos_core_world.specs.World.{Has, nodes_of}
 use Rattle.paxos_core_world.specs.declared.msg.Msg.TheVariants.{Propose}

@@ -1,3 +1,4 @@
+-- Why what `promise` leaves is in order.
 use Rattle.std.proofs.Common.{◌∙◌}
 use Rattle.std.proofs.Math.ListN.{length-set}
 use Rattle.paxos_reference.proofs.FromOne.{pushed_proposals}

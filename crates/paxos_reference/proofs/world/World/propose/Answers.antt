@@ -1,3 +1,4 @@
+-- Why what `propose` leaves is in order.
 use Rattle.std.proofs.Common.{◌≡◌, ℕ, subst}
 use Rattle.paxos_core_world.specs.World.{Has}
 use Rattle.paxos_core_world.specs.declared.msg.Msg.{Msg}

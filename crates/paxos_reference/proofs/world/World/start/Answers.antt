@@ -1,3 +1,4 @@
+-- Why what `start` leaves is in order.
 use Rattle.std.proofs.Common.{◌∙◌}
 use Rattle.std.proofs.Math.ListN.{length-set}
 use Rattle.paxos_reference.proofs.FromOne.{pushed_ballots, pushed_proposals, removed_ballots}

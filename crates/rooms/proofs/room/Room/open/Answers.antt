@@ -1,5 +1,6 @@
+-- Why `open` meets its clauses `ok` and `unsettled`, and it may call `seats_of`.
 use Rattle.std.proofs.Common.{sym, ap, ◌∙◌, arith}
-use Rattle.rooms_rule.specs.declared.view.Opening.{Opening}
+use Rattle.rooms_seat.specs.Opening.{Opening}
 use Rattle.rooms.proofs.Filled.{fit_offers}
 use Rattle.rooms.proofs.Openings.{opened_all}
 use Rattle.rooms.proofs.room.Room.open.Goals as goal

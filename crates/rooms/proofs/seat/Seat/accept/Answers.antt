@@ -1,7 +1,8 @@
+-- Why `accept` meets its clauses `answer` and `acted`.
 use Rattle.std.proofs.Common.{ap, option_map}
 use Rattle.paxos_core_world.specs.declared.vote.Vote.{Vote}
-use Rattle.paxos_core_law.specs.declared.step.Step.TheVariants as step
-use Rattle.rooms_state.proofs.Told.{acted_accept}
+use Rattle.paxos_core_node_steps.specs.declared.step.Step.TheVariants as step
+use Rattle.rooms_seat.proofs.Told.{acted_accept}
 use Rattle.rooms.proofs.seat.Seat.accept.Goals as goal
 
 pub returns-clause-answer : goal.returns-clause-answer

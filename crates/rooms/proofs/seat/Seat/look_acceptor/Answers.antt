@@ -1,4 +1,5 @@
-use Rattle.rooms_state.proofs.Told.{notes_of}
+-- Why `look_acceptor` meets its clause `notes`.
+use Rattle.rooms_seat.proofs.Told.{notes_of}
 use Rattle.rooms.proofs.seat.Seat.look_acceptor.Goals as goal
 
 pub returns-clause-notes : goal.returns-clause-notes

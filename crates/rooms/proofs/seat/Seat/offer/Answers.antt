@@ -1,7 +1,8 @@
+-- Why `offer` meets its contract.
 use Rattle.std.proofs.Common.{◌≡◌, ◌<◌, ◌≤◌, true, false, ◌∙◌, ap, sym, arith}
 use Rattle.std.specs.Arc.{arc_value}
 use Rattle.paxos_core_world.specs.KeptPart.{KeptPart}
-use Rattle.rooms_state.specs.SeatState.{SeatState}
+use Rattle.rooms_seat.specs.SeatState.{SeatState}
 use Rattle.rooms.proofs.Offers.{stands}
 use Rattle.rooms.proofs.seat.Seat.offer.Goals as goal
 

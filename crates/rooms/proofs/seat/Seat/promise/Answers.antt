@@ -1,6 +1,7 @@
+-- Why `promise` meets its clauses `answer` and `acted`.
 use Rattle.std.proofs.Common.{ap, option_map}
-use Rattle.paxos_core_law.specs.declared.step.Step.TheVariants as step
-use Rattle.rooms_state.proofs.Told.{acted_promise}
+use Rattle.paxos_core_node_steps.specs.declared.step.Step.TheVariants as step
+use Rattle.rooms_seat.proofs.Told.{acted_promise}
 use Rattle.rooms.proofs.seat.Seat.promise.Goals as goal
 
 pub returns-clause-answer : goal.returns-clause-answer

@@ -1,6 +1,7 @@
+-- Why `propose` meets its clauses `answer` and `acted`.
 use Rattle.std.proofs.Common.{ℕ, ap, option_map}
-use Rattle.paxos_core_law.specs.declared.step.Step.TheVariants as step
-use Rattle.rooms_state.proofs.Told.{acted_propose}
+use Rattle.paxos_core_node_steps.specs.declared.step.Step.TheVariants as step
+use Rattle.rooms_seat.proofs.Told.{acted_propose}
 use Rattle.rooms.proofs.seat.Seat.propose.Goals as goal
 
 pub returns-clause-answer : goal.returns-clause-answer

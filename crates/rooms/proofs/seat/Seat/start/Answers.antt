@@ -1,4 +1,5 @@
-use Rattle.rooms_state.proofs.Told.{acted_start}
+-- Why `start` meets its clauses `answer`, `spent` and `acted`.
+use Rattle.rooms_seat.proofs.Told.{acted_start}
 use Rattle.rooms.proofs.Starts.{spent_told, start_told}
 use Rattle.rooms.proofs.seat.Seat.start.Goals as goal
 

@@ -1,3 +1,4 @@
+-- Why `cell` meets its clauses `name` and `size`.
 use Rattle.std.proofs.Common.{◌≡◌, ◌<◌, ℕ, List, length, get_or, sym, ap, ◌∙◌, subst}
 use Rattle.once_cell.specs.Once.{cell_name}
 use Rattle.rooms_cells.proofs.Rows.{get_or-map, length-map}

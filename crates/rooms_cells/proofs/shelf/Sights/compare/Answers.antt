@@ -1,3 +1,4 @@
+-- Why `compare` may call `compare`.
 use Rattle.std.proofs.Common.{◌≡◌, sym, ap, ◌∙◌, subst, ◌<◌, ℕ, List, length, get_or}
 use Rattle.rooms_cells.specs.Seen.{SightOf, names_of}
 use Rattle.rooms_cells.proofs.Rows.{get_or-map}

@@ -1,3 +1,4 @@
+-- Why `look` meets its clause `cells`, and it may call `look`.
 use Rattle.std.proofs.Common.{◌≡◌, sym, ap, ◌∙◌, subst, ◌<◌, ℕ, List, length, length-set, get_or}
 use Rattle.rooms_cells.specs.Seen.{SightOf, IsOnShelf, names_of}
 use Rattle.rooms_cells.proofs.Rows.{get_or-map, map-set_same}

@@ -1,3 +1,4 @@
+-- Why `of` meets its contract.
 use Rattle.std.proofs.Common.{◌≡◌, ap, ◌∙◌, refl, subst, length, List, ℕ}
 use Rattle.std.specs.Arc.{arc_value}
 use Rattle.rooms_cells.specs.Seen.{names_of, unseen}

@@ -1,3 +1,4 @@
+-- Why `open` meets its clause `told`, and it may call `seats_of_all`.
 use Rattle.rooms_function.proofs.Passes.{fresh, told_undealt}
 use Rattle.rooms_function.proofs.opening.FunctionRoom.open.Goals as goal
 

@@ -1,3 +1,4 @@
+-- Why `accept` meets its clauses `answer` and `acted`.
 use Rattle.std.proofs.Common.{◌≡◌, arith}
 use Rattle.rooms_function.proofs.seat.FunctionSeat.accept.Goals as goal
 

@@ -1,3 +1,4 @@
+-- Why `learned` meets its clause `there`.
 use Rattle.std.proofs.Common.{◌≡◌, arith}
 use Rattle.rooms_function.proofs.seat.FunctionSeat.learned.Goals as goal
 

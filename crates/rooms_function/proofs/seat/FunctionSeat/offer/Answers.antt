@@ -1,3 +1,4 @@
+-- Why `offer` may call `offer`.
 use denote.Param.Send.{sendable}
 use Rattle.rooms_function.proofs.Sent.{function_send, function_sync}
 use Rattle.rooms_function.proofs.seat.FunctionSeat.offer.Goals as goal

@@ -1,3 +1,4 @@
+-- Why `propose` meets its clauses `acted` and `answer`.
 use Rattle.std.proofs.Common.{◌≡◌, arith}
 use Rattle.rooms_function.proofs.seat.FunctionSeat.propose.Goals as goal
 

@@ -1,3 +1,4 @@
+-- Why `start` meets its clause `acted`.
 use Rattle.std.proofs.Common.{◌≡◌, arith}
 use Rattle.rooms_function.proofs.seat.FunctionSeat.start.Goals as goal
 

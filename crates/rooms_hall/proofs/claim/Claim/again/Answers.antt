@@ -1,3 +1,4 @@
+-- Why `again` may call `split_seat`.
 use Rattle.std.proofs.Common.{◌≡◌, ◌<◌, ◌∙◌, ap, sym, subst, arith}
 use Rattle.atomic_table.specs.Seated.{TableId}
 use Rattle.rooms_hall.specs.declared.view.View.{View}

@@ -1,3 +1,4 @@
+-- Why `compare` meets its clauses `told` and `mine`, and it may call `split_seat`, `join_seat` and `load`.
 use Rattle.std.proofs.Common.{◌≡◌, ◌<◌, ◌∙◌, ap, sym, subst, arith}
 use Rattle.std.specs.Arc.{arc_value}
 use Rattle.atomic_table.specs.Seated.{TableId}

@@ -1,3 +1,4 @@
+-- Why `claim` meets its contract, and it may call `load`.
 use Rattle.std.proofs.Common.{◌≡◌, ℕ, ◌<◌, ◌∙◌, ap, sym, subst, arith}
 use mathlib.Core.Option.{none}
 use Rattle.atomic_table.specs.Seated.{TableId}

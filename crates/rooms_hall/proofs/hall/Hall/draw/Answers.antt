@@ -1,3 +1,4 @@
+-- Why `draw` may call `load_new_seat` and `compare_exchange`.
 use Rattle.std.proofs.Common.{◌≡◌, ℕ, ◌+◌, ◌<◌, ◌==◌, [], ◌∙◌, ap, sym, subst, arith}
 use mathlib.Core.Option.{none}
 use prog.Atomic.{either}

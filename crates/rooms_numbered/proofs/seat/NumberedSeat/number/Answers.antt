@@ -1,3 +1,4 @@
+-- Why `number` meets its clause `tables`.
 use Rattle.std.proofs.Common.{◌≡◌, ℕ, sym, subst}
 use Rattle.rooms_hall.specs.RoomId.{AreNumbered, RoomId}
 use Rattle.rooms_numbered.specs.FunctionOf.{function_of}

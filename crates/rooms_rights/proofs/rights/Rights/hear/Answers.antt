@@ -1,3 +1,4 @@
+-- Why `hear` meets its clause `heard`, and it may call `split_seat` and `join_seat`.
 use Rattle.std.proofs.Common.{◌≡◌, ◌<◌, true, sym, ap, ◌∙◌, subst}
 use Rattle.std.specs.Arc.{arc_value}
 use Rattle.atomic_table.specs.Seated.{TableId}

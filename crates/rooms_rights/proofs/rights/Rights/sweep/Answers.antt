@@ -1,7 +1,8 @@
+-- Why `sweep` meets its clause `told`, its loop over `j` keeps the invariant, and it may call `look`.
 use Rattle.std.proofs.Common.{◌≡◌, ℕ, ◌+◌, ◌*◌, ◌<◌, ◌≤◌, set, refl, sym, ap, ◌∙◌, subst, arith}
 use Rattle.rooms_table.specs.Family.{view_in}
 use Rattle.rooms_table.specs.Places.{pair_of}
-use Rattle.rooms_rule.specs.declared.view.View.{View}
+use Rattle.rooms_steps.specs.View.{View}
 use Rattle.rooms_rights.specs.Rights.{Held}
 use Rattle.rooms_rights.specs.Sweep.{FoundChanged}
 use Rattle.rooms_rights.proofs.Sweeping.{first_words, may_then, next_words, none_yet, one_more, rights_left, stopped, told_of, SoFar}

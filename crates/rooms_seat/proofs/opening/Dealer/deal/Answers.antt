@@ -1,6 +1,7 @@
+-- Why `deal` may call `deal`.
 use Rattle.std.proofs.Common.{◌<◌, sym, subst}
 use Rattle.rooms_seat.specs.Dealing.{Dealing}
-use Rattle.rooms_met.proofs.Openings.{may_deal}
+use Rattle.rooms_meeting.proofs.Openings.{may_deal}
 use Rattle.rooms_seat.proofs.opening.Dealer.deal.Goals as goal
 
 pub deal-requires : goal.deal-requires

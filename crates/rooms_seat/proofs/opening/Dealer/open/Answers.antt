@@ -1,5 +1,6 @@
+-- Why `open` may call `open_one`.
 use Rattle.std.proofs.Common.{refl}
-use Rattle.rooms_met.proofs.Openings.{one_opens}
+use Rattle.rooms_meeting.proofs.Openings.{one_opens}
 use Rattle.rooms_seat.proofs.opening.Dealer.open.Goals as goal
 
 pub open_one-requires : goal.open_one-requires

@@ -1,12 +1,13 @@
+-- Why `accept` may call `store` and `pack`.
 use Rattle.std.proofs.Common.{◌≡◌, ℕ, ◌<◌, Option, Some, IfSome, refl, sym, ap, ◌∙◌, subst}
 use Rattle.paxos_core_world.specs.declared.vote.Vote.{Vote}
-use Rattle.paxos_core_law.specs.declared.step.Act.TheVariants as act
-use Rattle.rooms_rule.specs.Steps.{StoresAcceptor}
-use Rattle.rooms_rule.specs.declared.proposer.ProposerWord.{ProposerWord}
-use Rattle.rooms_state.specs.SeatState.{proposer_of, vote_by, SeatState}
-use Rattle.rooms_state.proofs.Acts.{given_ballot, given_value, vote_allowed, vote_seen, vote_sound}
-use Rattle.rooms_met.proofs.Hearing.{same_voted}
-use Rattle.rooms_met.proofs.Sweeps.{kept_heard}
+use Rattle.rooms_words.specs.Act.TheVariants as act
+use Rattle.rooms_words.specs.Steps.{StoresAcceptor}
+use Rattle.rooms_words.specs.declared.proposer.ProposerWord.{ProposerWord}
+use Rattle.rooms_meeting.specs.SeatState.{proposer_of, vote_by, SeatState}
+use Rattle.rooms_meeting.proofs.Acts.{given_ballot, given_value, vote_allowed, vote_seen, vote_sound}
+use Rattle.rooms_meeting.proofs.Hearing.{same_voted}
+use Rattle.rooms_meeting.proofs.Sweeps.{kept_heard}
 use Rattle.rooms_seat.proofs.Steps.{word_below}
 use Rattle.rooms_seat.proofs.seat.WordSeat.accept.Goals as goal
 

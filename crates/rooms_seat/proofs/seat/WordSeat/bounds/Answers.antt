@@ -1,11 +1,12 @@
+-- Why `bounds` meets its contract.
 use Rattle.std.proofs.Common.{◌≡◌, ℕ, ◌<◌, ◌⊎◌, get_or, sym, ap, subst, arith}
 use Rattle.paxos_core_world.specs.Ballot.{Owns}
 use Rattle.paxos_core_world.specs.KeptPart.{KeptPart, IsWithinPromise}
 use Rattle.paxos_core_world.specs.Quorum.{AreQuorums, Sizes}
-use Rattle.rooms_state.specs.SeatState.{SeatState, no_proposer}
+use Rattle.rooms_meeting.specs.SeatState.{SeatState, no_proposer}
 use Rattle.rooms_seat.specs.Meeting.{IsBounded}
-use Rattle.rooms_state.proofs.Acts.{proposed_value}
-use Rattle.rooms_met.specs.Seen.{proposers_shown}
+use Rattle.rooms_meeting.proofs.Acts.{proposed_value}
+use Rattle.rooms_meeting.specs.Seen.{proposers_shown}
 use Rattle.rooms_seat.proofs.Orders.{ballot_kept, proposed_node, vote_fresh}
 use Rattle.rooms_seat.proofs.seat.WordSeat.bounds.Goals as goal
 

@@ -1,7 +1,8 @@
+-- Why `forget` meets its clauses `forgotten` and `found`, and it may call `load`.
 use Rattle.std.proofs.Common.{◌≡◌, ℕ, ◌<◌, ◌∙◌, subst}
-use Rattle.rooms_steps.proofs.Looks.{forgets}
-use Rattle.rooms_state.proofs.Moves.{forgot_sound, forgotten, found_own}
-use Rattle.rooms_met.proofs.Sweeps.{none_heard}
+use Rattle.rooms_meeting.proofs.Looks.{forgets}
+use Rattle.rooms_meeting.proofs.Moves.{forgot_sound, forgotten, found_own}
+use Rattle.rooms_meeting.proofs.Sweeps.{none_heard}
 use Rattle.rooms_seat.proofs.Steps.{word_below}
 use Rattle.rooms_seat.proofs.seat.WordSeat.forget.Goals as goal
 

@@ -1,5 +1,6 @@
+-- Why `hear` may call `hear`.
 use Rattle.std.proofs.Common.{sym, ap, ◌∙◌}
-use Rattle.rooms_state.specs.SeatState.{SeatState}
+use Rattle.rooms_meeting.specs.SeatState.{SeatState}
 use Rattle.rooms_seat.proofs.Steps.{some_word}
 use Rattle.rooms_seat.proofs.seat.WordSeat.hear.Goals as goal
 

@@ -1,8 +1,9 @@
+-- Why `look_acceptor` meets its contract, and it may call `load`.
 use Rattle.std.proofs.Common.{ℕ, ◌<◌, sym, ap, subst, refl}
 use Rattle.paxos_core_world.specs.Quorum.{Sizes}
-use Rattle.rooms_steps.proofs.Looks.{looks_at_acceptor}
-use Rattle.rooms_state.specs.SeatState.{SeatState}
-use Rattle.rooms_met.proofs.Sweeps.{acceptor_again, acceptor_noted}
+use Rattle.rooms_meeting.proofs.Looks.{looks_at_acceptor}
+use Rattle.rooms_meeting.specs.SeatState.{SeatState}
+use Rattle.rooms_meeting.proofs.Sweeps.{acceptor_again, acceptor_noted}
 use Rattle.rooms_seat.proofs.Steps.{word_below}
 use Rattle.rooms_seat.proofs.seat.WordSeat.look_acceptor.Goals as goal
 

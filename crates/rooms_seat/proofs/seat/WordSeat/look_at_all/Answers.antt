@@ -1,6 +1,7 @@
+-- Why `look_at_all` meets its contract.
 use Rattle.std.proofs.Common.{ℕ, ap, subst}
 use Rattle.paxos_core_world.specs.Quorum.{Sizes}
-use Rattle.rooms_met.specs.Met.{LookedAtFirst}
+use Rattle.rooms_meeting.specs.Met.{LookedAtFirst}
 use Rattle.rooms_seat.proofs.seat.WordSeat.look_at_all.Goals as goal
 
 pub returns-in-Some : goal.returns-in-Some

@@ -1,6 +1,7 @@
+-- Why the loop of `look_from` over `j` keeps the invariant.
 use Rattle.std.proofs.Common.{◌∙◌}
-use Rattle.rooms_met.specs.Met.{LookedAtBoth}
-use Rattle.rooms_met.proofs.Looked.{on_both, one_more}
+use Rattle.rooms_meeting.specs.Met.{LookedAtBoth}
+use Rattle.rooms_meeting.proofs.Looked.{on_both, one_more}
 use Rattle.rooms_seat.proofs.seat.WordSeat.look_from.Goals as goal
 
 pub loop-j-preserved : goal.loop-j-preserved

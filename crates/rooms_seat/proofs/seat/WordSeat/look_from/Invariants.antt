@@ -1,6 +1,6 @@
 use Rattle.std.proofs.Common.{◌≡◌}
-use Rattle.rooms_met.specs.Met.{LookedAtFirst}
-use Rattle.rooms_state.specs.SeatState.{SeatState}
+use Rattle.rooms_meeting.specs.Met.{LookedAtFirst}
+use Rattle.rooms_meeting.specs.SeatState.{SeatState}
 use Rattle.rooms_seat.proofs.seat.WordSeat.look_from.Given as goal
 
 abbrev pub invariant-loop-j : goal.invariant-loop-j

@@ -1,8 +1,9 @@
+-- Why `look_proposer` meets its contract, and it may call `load`.
 use Rattle.std.proofs.Common.{ℕ, ◌<◌, sym, ap, subst, refl}
 use Rattle.paxos_core_world.specs.Quorum.{Sizes}
-use Rattle.rooms_steps.proofs.Looks.{looks_at_proposer}
-use Rattle.rooms_state.specs.SeatState.{SeatState}
-use Rattle.rooms_met.proofs.Sweeps.{proposer_kept}
+use Rattle.rooms_meeting.proofs.Looks.{looks_at_proposer}
+use Rattle.rooms_meeting.specs.SeatState.{SeatState}
+use Rattle.rooms_meeting.proofs.Sweeps.{proposer_kept}
 use Rattle.rooms_seat.proofs.Steps.{word_below}
 use Rattle.rooms_seat.proofs.seat.WordSeat.look_proposer.Goals as goal
 

@@ -1,9 +1,10 @@
+-- Why `new` meets its contract, and it may call `opened_words`.
 use Rattle.std.proofs.Common.{◌≡◌, ◌<◌, ◌≤◌, List, [], ◌∷◌, length, map, get_or, sym, ◌∙◌, subst, arith}
 use Rattle.paxos_core_world.specs.KeptPart.{KeptPart, nothing_kept}
-use Rattle.rooms_state.specs.SeatState.{SeatState, opened_acceptor, opened_proposer}
-use Rattle.rooms_met.specs.Seen.{acceptor_shown, proposer_shown, IsKept}
-use Rattle.rooms_met.proofs.Sweeps.{none_heard}
-use Rattle.rooms_state.proofs.Opened.{opened_sound, seven}
+use Rattle.rooms_meeting.specs.SeatState.{SeatState, opened_acceptor, opened_proposer}
+use Rattle.rooms_meeting.specs.Seen.{acceptor_shown, proposer_shown, IsKept}
+use Rattle.rooms_meeting.proofs.Sweeps.{none_heard}
+use Rattle.rooms_meeting.proofs.Opened.{opened_sound, seven}
 use Rattle.rooms_seat.proofs.Starting.{image_at, is_opened, kept_at, kept_fits}
 use Rattle.rooms_seat.proofs.seat.WordSeat.new.Goals as goal
 

@@ -1,7 +1,8 @@
+-- Why what `offer` leaves is in order.
 use Rattle.std.proofs.Common.{refl}
-use Rattle.rooms_state.proofs.Moves.{offer_sound}
-use Rattle.rooms_met.proofs.Hearing.{same_offered}
-use Rattle.rooms_met.proofs.Sweeps.{kept_heard}
+use Rattle.rooms_meeting.proofs.Moves.{offer_sound}
+use Rattle.rooms_meeting.proofs.Hearing.{same_offered}
+use Rattle.rooms_meeting.proofs.Sweeps.{kept_heard}
 use Rattle.rooms_seat.proofs.seat.WordSeat.offer.Goals as goal
 
 pub invariant_of-self : goal.invariant_of-self

@@ -1,13 +1,14 @@
+-- Why `promise` may call `pack` and `store`.
 use Rattle.std.proofs.Common.{◌≡◌, ℕ, ◌<◌, ◌≤◌, Option, Some, None, IfSome, sym, ap, ◌∙◌, subst, refl}
 use Rattle.paxos_core_world.specs.KeptPart.{KeptPart}
 use Rattle.paxos_core_world.specs.declared.vote.Vote.{Vote}
-use Rattle.paxos_core_law.specs.declared.step.Act.TheVariants as act
-use Rattle.rooms_rule.specs.Words.{IsAcceptorWord, IsVoteInWord}
-use Rattle.rooms_rule.specs.Steps.{StoresAcceptor}
-use Rattle.rooms_state.specs.SeatState.{proposer_of, SeatState}
-use Rattle.rooms_state.proofs.Acts.{kept_value, promise_allowed, promise_sound}
-use Rattle.rooms_met.proofs.Hearing.{same_promised}
-use Rattle.rooms_met.proofs.Sweeps.{kept_heard}
+use Rattle.rooms_words.specs.Act.TheVariants as act
+use Rattle.rooms_words.specs.Words.{IsAcceptorWord, IsVoteInWord}
+use Rattle.rooms_words.specs.Steps.{StoresAcceptor}
+use Rattle.rooms_meeting.specs.SeatState.{proposer_of, SeatState}
+use Rattle.rooms_meeting.proofs.Acts.{kept_value, promise_allowed, promise_sound}
+use Rattle.rooms_meeting.proofs.Hearing.{same_promised}
+use Rattle.rooms_meeting.proofs.Sweeps.{kept_heard}
 use Rattle.rooms_seat.proofs.Steps.{word_below}
 use Rattle.rooms_seat.proofs.seat.WordSeat.promise.Goals as goal
 

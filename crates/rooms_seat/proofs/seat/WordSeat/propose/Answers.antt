@@ -1,9 +1,10 @@
+-- Why `propose` may call `pack` and `store`.
 use Rattle.std.proofs.Common.{◌≡◌, ℕ, ◌<◌, Some, refl, sym, ap, ◌∙◌, subst, arith}
 use Rattle.paxos_core_world.specs.KeptPart.{KeptPart}
-use Rattle.rooms_rule.specs.Words.{IsProposerWord}
-use Rattle.rooms_state.proofs.Acts.{proposed_value, propose_allowed, propose_sound}
-use Rattle.rooms_met.proofs.Hearing.{same_proposed}
-use Rattle.rooms_met.proofs.Sweeps.{kept_heard}
+use Rattle.rooms_words.specs.Words.{IsProposerWord}
+use Rattle.rooms_meeting.proofs.Acts.{proposed_value, propose_allowed, propose_sound}
+use Rattle.rooms_meeting.proofs.Hearing.{same_proposed}
+use Rattle.rooms_meeting.proofs.Sweeps.{kept_heard}
 use Rattle.rooms_seat.proofs.Steps.{word_below}
 use Rattle.rooms_seat.proofs.seat.WordSeat.propose.Goals as goal
 

@@ -1,10 +1,11 @@
+-- Why `start` may call `store`.
 use Rattle.std.proofs.Common.{◌≡◌, ℕ, ◌<◌, false, true, None, ap, ◌∙◌, subst, arith}
 use Rattle.paxos_core_world.specs.KeptPart.{KeptPart}
-use Rattle.paxos_core_law.specs.NodeState.{NodeState}
-use Rattle.paxos_core_law.specs.Proposer.{next_ballot}
-use Rattle.rooms_rule.specs.Words.{IsProposerWord}
-use Rattle.rooms_state.proofs.Acts.{start_allowed, start_sound}
-use Rattle.rooms_met.proofs.Sweeps.{none_heard}
+use Rattle.rooms_words.specs.NodeState.{NodeState}
+use Rattle.rooms_words.specs.Proposer.{next_ballot}
+use Rattle.rooms_words.specs.Words.{IsProposerWord}
+use Rattle.rooms_meeting.proofs.Acts.{start_allowed, start_sound}
+use Rattle.rooms_meeting.proofs.Sweeps.{none_heard}
 use Rattle.rooms_seat.proofs.Steps.{word_below}
 use Rattle.rooms_seat.proofs.seat.WordSeat.start.Goals as goal
 

@@ -1,11 +1,12 @@
+-- Why `sweep` meets its clauses `all` and `from`.
 use Rattle.std.proofs.Common.{◌≡◌, ℕ, suc, ◌+◌, ◌<◌, ◌≤◌, set, sym, ap, ◌∙◌, subst, arith}
-use Rattle.rooms_met.specs.Met.{LookedAtFirst}
-use Rattle.rooms_met.specs.Seen.{with_acceptor, IsKept}
-use Rattle.rooms_met.proofs.Looked.{same_quorums}
-use Rattle.rooms_met.proofs.Sweeps.{all_swept, seat_of, swept_until}
-use Rattle.rooms_table.specs.RoomAt.{RoomAt}
-use Rattle.rooms_rights.specs.Sweep.{FoundChanged, FoundUnchanged}
-use Rattle.rooms_rights.specs.declared.seen.SeenWords.{SeenWords}
+use Rattle.rooms_meeting.specs.Met.{LookedAtFirst}
+use Rattle.rooms_meeting.specs.Seen.{with_acceptor, IsKept}
+use Rattle.rooms_meeting.proofs.Looked.{same_quorums}
+use Rattle.rooms_meeting.proofs.Sweeps.{all_swept, seat_of, swept_until}
+use Rattle.rooms_meeting.specs.RoomAt.{RoomAt}
+use Rattle.rooms_meeting.specs.Sweep.{FoundChanged, FoundUnchanged}
+use Rattle.rooms_meeting.specs.SeenWords.{SeenWords}
 use Rattle.rooms_seat.proofs.seat.WordSeat.sweep.Goals as goal
 
 pub invariant_of-self : goal.invariant_of-self

@@ -1,3 +1,4 @@
+-- Why the loop of `of` over `number` keeps the invariant.
 use Rattle.std.proofs.Common.{length, map, ap, ◌≡◌, ◌∙◌, arith}
 use Rattle.std.proofs.lemmas.List.{with_items_is}
 use Rattle.std.specs.Prelude.{slice_set}

@@ -1,2 +1,0 @@
-pub mod Migrated
-pub mod Keeps

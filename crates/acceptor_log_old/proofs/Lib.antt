@@ -1,0 +1,9 @@
+pub mod OldHeaders
+pub mod OneOldFault
+pub mod OldTexts
+pub mod Plain
+pub mod Kept
+pub mod Well
+pub mod InOrder
+pub mod Rooms
+pub mod Offers

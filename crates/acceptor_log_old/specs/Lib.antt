@@ -1,0 +1,5 @@
+pub mod OldText
+pub mod OldFault
+pub mod OldLaws
+pub mod Migrated
+pub mod Keeps

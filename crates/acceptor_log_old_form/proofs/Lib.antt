@@ -1,4 +1,0 @@
-pub mod OldHeaders
-pub mod OneOldFault
-pub mod OldTexts
-pub mod Plain

@@ -1,3 +1,0 @@
-pub mod OldText
-pub mod OldFault
-pub mod OldLaws

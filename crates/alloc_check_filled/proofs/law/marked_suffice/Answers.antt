@@ -1,5 +1,0 @@
-use Rattle.alloc_check_filled.proofs.Kept.{kept}
-use Rattle.alloc_check_filled.proofs.law.marked_suffice.Goals as goal
-
-pub returns : goal.returns
-returns c = λ input output lists rows fits shape right are_rows same. kept input output lists rows fits shape right same are_rows

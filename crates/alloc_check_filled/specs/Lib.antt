@@ -1,2 +1,0 @@
-pub mod Allocated
-pub mod Laws

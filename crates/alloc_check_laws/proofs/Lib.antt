@@ -1,3 +1,0 @@
-pub mod Forms
-pub mod Steps
-pub mod Sound

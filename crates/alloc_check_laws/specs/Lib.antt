@@ -1,4 +1,0 @@
-pub mod Text
-pub mod Reading
-pub mod Related
-pub mod Theorem

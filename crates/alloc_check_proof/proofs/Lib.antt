@@ -1,0 +1,10 @@
+pub mod Marks
+pub mod Right
+pub mod Kept
+pub mod Forms
+pub mod Steps
+pub mod Sound
+pub use Rattle.alloc_check_fill.proofs.Blocks
+pub use Rattle.alloc_check_fill.proofs.Carried
+pub use Rattle.alloc_check_fill.proofs.Fixed
+pub use Rattle.alloc_check_fill.proofs.Members

@@ -1,0 +1,10 @@
+pub mod Allocated
+pub mod Laws
+pub mod Text
+pub mod Reading
+pub mod Related
+pub mod Theorem
+pub use Rattle.alloc_check_fill.specs.Fill
+pub use Rattle.alloc_check_fill.specs.Needed
+pub use Rattle.alloc_check_fill.specs.Right
+pub use Rattle.alloc_check_fill.specs.Sets

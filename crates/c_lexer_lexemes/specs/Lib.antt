@@ -1,0 +1,10 @@
+pub mod Bytes
+pub mod Characters
+pub mod Faults
+pub mod Keywords
+pub mod Lexemes
+pub mod Lookups
+pub mod Numbers
+pub mod Parts
+pub mod Punctuators
+pub use Rattle.c_syntax.specs.declared.keyword.Keyword

@@ -1,9 +1,0 @@
-pub mod Bytes
-pub mod Characters
-pub mod Faults
-pub mod Keywords
-pub mod Lexemes
-pub mod Lookups
-pub mod Numbers
-pub mod Parts
-pub mod Punctuators

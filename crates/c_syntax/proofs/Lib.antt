@@ -1,0 +1,1 @@
+pub use Rattle.lang_base.proofs.Parts

@@ -1,0 +1,29 @@
+-- Why `put_built` meets its clauses `refused` and `put`.
+use Rattle.std.proofs.Common.{refl, subst, ◌∙◌}
+use Rattle.std.specs.Io.KnownBytes.{Appends}
+use Rattle.cfarm_build_linking.specs.Carried.{bundle_of}
+use Rattle.cfarm_output.specs.Begun.{IsBegun}
+use Rattle.cfarm_build_folder.specs.Putting.{PlacesBoth}
+use Rattle.cfarm_build.proofs.Putting.{no_line, stopped}
+use Rattle.cfarm_build.proofs.text_building.put_built.Goals as goal
+
+pub returns-in_default-clause-refused : goal.returns-in_default-clause-refused
+returns-in_default-clause-refused g c = no_line c.args.options c.args.built (g.F.Files.placed c.args.files.now) (g.W.Write.contents c.args.out.now)
+
+-- the file of the bundle is refused, or that of the program
+pub returns-in-Err-clause-refused : goal.returns-in-Err-clause-refused
+returns-in-Err-clause-refused g c = stopped c.args.options c.args.built _ _ _ _ refl c.in-Err.fault c.in-Err.ensures.refused
+
+-- the report is printed
+pub returns-in-Ok-print_whole-clause-put : goal.returns-in-Ok-print_whole-clause-put
+returns-in-Ok-print_whole-clause-put g c = (
+  subst (λ bytes. PlacesBoth c.args.options (bundle_of c.args.built) (g.F.Files.placed c.args.files.now) (g.F.Files.placed c.place_both.new.files) bytes) c.deref.ensures.value c.in-Ok-place_both.ensures.put,
+  subst (λ bytes. Appends (g.W.Write.contents c.args.out.now) (g.W.Write.contents c.print_whole.new.out) bytes) (c.as_bytes.ensures.value ∙ c.in-Ok.ensures) c.in-Ok-print_whole.ensures.printed,
+)
+
+-- a beginning of it is
+pub returns-clause-refused : goal.returns-clause-refused
+returns-clause-refused g c = (
+  subst (λ bytes. PlacesBoth c.args.options (bundle_of c.args.built) (g.F.Files.placed c.args.files.now) (g.F.Files.placed c.place_both.new.files) bytes) c.deref.ensures.value c.in-Ok-place_both.ensures.put,
+  subst (λ bytes. IsBegun bytes (g.W.Write.contents c.args.out.now) (g.W.Write.contents c.print_whole.new.out)) (c.as_bytes.ensures.value ∙ c.in-Ok.ensures) c.in-Err-print_whole.ensures.begun,
+)

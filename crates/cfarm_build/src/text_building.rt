@@ -1,0 +1,96 @@
+//! The whole command.
+
+ghost use Rattle.std.specs.Prelude.{◌≡◌, ◌++◌, ◌∷◌, [], OnOk, IfOk, IfErr, is_some};
+ghost use Rattle.std.specs.String.{string_bytes};
+ghost use Rattle.cfarm_files.specs.Locking.{CoversFolder};
+ghost use Rattle.cfarm_build.specs.Compiled.{quorums_of};
+ghost use Rattle.cfarm_build.specs.Done.{HasPut, HasPutNot};
+ghost use Rattle.cfarm_build.specs.Farmed.{FarmBuilds, FarmBuildsNot};
+
+use crate::compiling::compiled;
+use crate::farm::Farm;
+use cfarm_build_folder::{BuildError, BuildingError, place_both};
+use cfarm_build_turns::Built;
+use cfarm_files::Files;
+use cfarm_options::{BuildOptions, Meter};
+use cfarm_output::print_whole;
+use paxos_core_world::quorum::Quorums;
+use rooms_hall::{Hall, Naming};
+use std::alloc::{AllocError, Global};
+use std::io::Write;
+use std::sync::Wait;
+use std::thread::Threads;
+
+/// The report, with the end of the line.
+fn line_of(report: String) -> Result<String, AllocError>
+    ensures { IfOk result (λ line. string_bytes line ≡ string_bytes report ++ 10 ∷ []) }
+{
+    let mut line = report;
+    match line.push('\n') {
+        Ok(()) => Ok(line),
+        Err(fault) => Err(fault),
+    }
+}
+
+/// Puts what was built in its files, the bundle first where one is asked for, and then prints the report.
+fn put_built<F: Files, W: Write>(
+    alloc: Global,
+    options: BuildOptions<'_>,
+    files: &mut F,
+    lock: &F::Lock,
+    built: Built,
+    out: &mut W,
+) -> Result<(), BuildingError>
+    requires locked { CoversFolder (F.covers lock.now) options.folder.now }
+    requires made { is_some built.bundle ≡ is_some options.bundle }
+    ensures put { OnOk result (HasPut F.placed W.contents options.entry built files out) }
+    ensures refused { IfErr result (HasPutNot F.placed W.contents options.entry built files out) }
+{
+    let Built {
+        program,
+        bundle,
+        report,
+    } = built;
+    let Ok(line) = line_of(report) else {
+        return Err(BuildingError::Build(BuildError::NoMemory));
+    };
+    match place_both(alloc, options, files, lock, &program, &bundle) {
+        Ok(()) => {}
+        Err(fault) => return Err(fault),
+    }
+    match print_whole(out, line.as_bytes()) {
+        Ok(()) => Ok(()),
+        Err(_) => Err(BuildingError::Write),
+    }
+}
+
+/// Builds a C text in the folder by a farm with the quorums that are asked for. The folder's lock is held from the text's acceptance on to
+/// the end: the bundle is put in its file, where one is asked for, then the linked program in its own, and then the report is printed on one
+/// line and flushed. What is shown while the farm runs is taken away before.
+pub fn build_text<H: Naming + Send, R: Threads + Wait + Sync, F: Files, M: Meter, W: Write>(
+    rt: &R,
+    alloc: Global,
+    hall: &Hall<H>,
+    text: &[u8],
+    options: BuildOptions<'_>,
+    quorums: Quorums,
+    files: &mut F,
+    meter: &mut M,
+    out: &mut W,
+) -> Result<(), BuildingError>
+    requires { quorums ≡ quorums_of options }
+
+    // The last file that is put holds the text of a program that keeps the meaning of the C program. Where a bundle is asked for it is put
+    // before, and nothing else is: `verify` says yes of the text and these two. The report is printed.
+    ensures built { OnOk result (FarmBuilds ⟦<F as Farm<H>>⟧ W.contents options.entry text.now files out) }
+
+    // What is refused puts no program and prints nothing, and a refused text makes no file. Only where the program's file is refused was the
+    // bundle put. The output is the last that can be refused.
+    ensures refused { IfErr result (FarmBuildsNot ⟦<F as Farm<H>>⟧ W.contents options.entry text.now files out) }
+{
+    let (built, lock) = match compiled(rt, alloc, hall, text, options, quorums, files, meter) {
+        Ok(made) => made,
+        Err(fault) => return Err(fault),
+    };
+    put_built(alloc, options, files, &lock, built, out)
+}

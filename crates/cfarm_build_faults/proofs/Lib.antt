@@ -1,0 +1,1 @@
+pub use Rattle.farm_nodes.proofs.Coming

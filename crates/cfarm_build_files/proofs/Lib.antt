@@ -1,4 +1,0 @@
-mod Carrying
-mod Leaving
-mod Putting
-mod Refusing

@@ -1,0 +1,2 @@
+pub mod Faults
+pub use Rattle.farm_nodes_turn_passes.specs.Fours

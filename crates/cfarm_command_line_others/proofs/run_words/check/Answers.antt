@@ -1,0 +1,16 @@
+-- Why `check` meets its contract.
+use Rattle.std.specs.Prelude.{codes}
+use Rattle.std.proofs.Common.{ap, ◌∙◌}
+use Rattle.clap.specs.Words.{new_app}
+use Rattle.clap.specs.Simple.{app_of_fields}
+use Rattle.cfarm_command_line_others.specs.Words.{file_rule, format_rule}
+use Rattle.cfarm_command_line_others.proofs.run_words.check.Goals as goal
+
+pub returns : goal.returns
+returns c =
+    let named = c.with_argument-named.ensures (new_app (codes "check")) file_rule (
+      ap app_of_fields c.after_help-plain.ensures ∙ ap app_of_fields c.about.ensures ∙ c.new.ensures.app,
+      ap (λ f. f.has_globals) c.after_help-plain.ensures ∙ ap (λ f. f.has_globals) c.about.ensures ∙ c.new.ensures.local,
+    )
+    c.file.ensures in
+    c.with_argument.ensures _ (format_rule c.args.choices) named c.form.ensures

@@ -1,0 +1,14 @@
+-- Why `showing_of` meets its clauses `some` and `none`.
+use Rattle.std.specs.Prelude.{codes}
+use Rattle.std.proofs.Common.{sym, ◌∙◌}
+use Rattle.std.proofs.lemmas.Option.{IfSome_then}
+use Rattle.clap.specs.Words.{found_of}
+use Rattle.clap.proofs.WalkLemmas.{first_value-rows}
+use Rattle.cfarm_command_line_others.proofs.sim_words.showing_of.Goals as goal
+
+pub returns-clause-some : goal.returns-clause-some
+returns-clause-some c =
+    IfSome_then c.showing_found.result c.showing_found.ensures.some (λ s h. sym (first_value-rows (found_of c.args.words.now) (codes "svg")) ∙ h)
+
+pub returns-clause-none : goal.returns-clause-none
+returns-clause-none c = λ none s is. c.showing_found.ensures.none none s (first_value-rows (found_of c.args.words.now) (codes "svg") ∙ is)

@@ -1,6 +1,0 @@
-use Rattle.cfarm_command_parts.proofs.Commands.{of_ok, takes_command}
-use Rattle.cfarm_command_parts.proofs.joining.with_part.Goals as goal
-
-pub returns-in-Ok : goal.returns-in-Ok
-returns-in-Ok c = λ app inner is part.
-    takes_command c.args.command c.in-Ok.part app inner c.subcommand.result c.subcommand.ensures is (of_ok c.args.part c.in-Ok.part inner c.in-Ok.is part)

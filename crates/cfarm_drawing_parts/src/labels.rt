@@ -1,8 +1,0 @@
-//! What the labels of a drawing are.
-
-ghost use Rattle.cfarm_drawing_parts.specs.Labels.{LabelsAreLines};
-
-/// What stands outside of the tags of a drawing is what `cfarm_schedules` prints of the same calls.
-pub fn labels_are_lines()
-    ensures { LabelsAreLines }
-{}

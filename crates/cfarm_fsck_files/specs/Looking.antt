@@ -1,0 +1,67 @@
+-- What `fsck` comes to, on the bytes of its text: what it made and wrote, and what it answers.
+use Rattle.std.specs.Prelude.{◌≡◌, ◌⊎◌, ℕ, List, Option, Result}
+use Rattle.std.specs.Arc.{arc_value}
+use Rattle.std.specs.String.{string_bytes}
+use Rattle.paxos_core_world.specs.Quorum.{Sizes}
+use Rattle.farm_nodes_source.specs.Refused.{IsUnprepared}
+use Rattle.farm_nodes_source.specs.declared.fault.SourceFault.{SourceFault}
+use Rattle.farm_nodes_source.specs.declared.source.Source.{Source}
+use Rattle.cfarm_build_faults.specs.Lines.{build_line}
+use Rattle.cfarm_build_faults.specs.Prepared.{IsSourceOf}
+use Rattle.cfarm_build_faults.specs.Statuses.{status_of}
+use Rattle.cfarm_build_faults.specs.declared.error.BuildError.{BuildError}
+use Rattle.cfarm_build_faults.specs.declared.error.BuildError.TheVariants as build
+use Rattle.cfarm_files.specs.Locking.{lock_path}
+use Rattle.cfarm_files.specs.Placing.{Placed, Keeps, Makes}
+use Rattle.cfarm_files.specs.declared.fault.FileFault.{FileFault}
+use Rattle.cfarm_files.specs.declared.fault.FileFault.TheVariants as file
+use Rattle.cfarm_fsck.specs.Told as fsck
+use Rattle.cfarm_fsck.specs.declared.error.FsckError.{FsckError}
+use Rattle.cfarm_fsck.specs.declared.error.FsckError.TheVariants.{Disks, NoMemory, Write}
+use Rattle.cfarm_fsck_journals.specs.declared.files.NodeFiles.{NodeFiles}
+use Rattle.cfarm_program_status.specs.Reading.{Coming, unread}
+use Rattle.cfarm_program_status.specs.Telling.{Answer, no_memory, quiet, told, unwritten}
+use Rattle.cfarm_fsck_files.specs.Reading.{AreRead, HasUnread}
+use Rattle.cfarm_fsck_files.specs.declared.unread.Unread.{Unread}
+use Rattle.cfarm_fsck_files.specs.declared.unread.Unread.TheVariants as unread_by
+
+-- what `build` answers where it is refused so
+abbrev pub build_fault : BuildError → Answer
+build_fault fault = told (status_of fault) (build_line fault)
+
+-- a folder is refused as `build` would refuse it
+abbrev pub fsck_fault : FsckError → Answer
+fsck_fault (Disks fault) = build_fault (build.Disks fault)
+fsck_fault NoMemory = no_memory
+fsck_fault Write = unwritten
+
+abbrev pub unread_fault : Unread → Answer
+unread_fault unread_by.NoMemory = no_memory
+unread_fault (unread_by.File path) = unread (string_bytes path) file.Refused
+
+-- what stands in these files is told, or why not
+abbrev pub Found : Sizes → Source → List NodeFiles → Coming
+Found q source files answer before after =
+    (fsck.IsTold q source.digest (arc_value source.translated) files before after × (answer ≡ quiet))
+    ⊎ ((fault : FsckError) × fsck.IsNotTold q source.digest (arc_value source.translated) files fault before after × (answer ≡ fsck_fault fault))
+
+module _ (known : List ℕ → Option (Result (List ℕ) FileFault)) (folder : List ℕ) (q : Sizes) where
+  -- the files are read as they are known to be, and so it comes; or the first that is refused is told, and then nothing is printed
+  abbrev pub OfFiles : Source → Coming
+  OfFiles source answer before after =
+      ((files : List NodeFiles) × AreRead known folder q.nodes files × Found q source files answer before after)
+      ⊎ ((fault : Unread) × HasUnread known folder q.nodes fault × (after ≡ before) × (answer ≡ unread_fault fault))
+
+  -- the folder's lock is had, and so it comes; or its file is told, and then no other is read and nothing is printed
+  abbrev pub OfLocked : Source → Coming
+  OfLocked source answer before after =
+      OfFiles source answer before after
+      ⊎ ((fault : FileFault) × (after ≡ before) × (answer ≡ unread (lock_path folder) fault))
+
+-- A text that is refused is told as `build` tells it: nothing is made, and nothing printed. Else the lock's file alone may be made, and
+-- nothing is put.
+abbrev pub Looked : (List ℕ → Option (Result (List ℕ) FileFault)) → (placed now_placed : Option (List Placed)) → List ℕ → Sizes → List ℕ → Coming
+Looked known placed now_placed folder q text answer before after =
+    ((fault : SourceFault) × IsUnprepared text fault × Keeps placed now_placed × (after ≡ before) × (answer ≡ build_fault (build.Source fault)))
+    ⊎ ((source : Source) × IsSourceOf text source × Makes placed now_placed (λ path. path ≡ lock_path folder)
+    × OfLocked known folder q source answer before after)

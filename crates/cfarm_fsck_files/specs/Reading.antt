@@ -1,0 +1,48 @@
+-- What the files of a folder's journals are read as.
+use Rattle.std.specs.Prelude.{◌≡◌, ◌⊎◌, ◌<◌, ℕ, List, [], length, Option, Some, Result, Ok, Err, slice_get}
+use Rattle.std.specs.String.{string_bytes}
+use Rattle.cfarm_files.specs.Reading.{IsKnownAs}
+use Rattle.cfarm_files.specs.declared.fault.FileFault.{FileFault}
+use Rattle.cfarm_files.specs.declared.fault.FileFault.TheVariants.{Refused}
+use Rattle.cfarm_fsck_journals.specs.declared.files.NodeFiles.{NodeFiles}
+use Rattle.cfarm_options.specs.Paths.{journal_path, old_journal_path}
+use Rattle.cfarm_fsck_files.specs.declared.unread.Unread.{Unread}
+use Rattle.cfarm_fsck_files.specs.declared.unread.Unread.TheVariants.{NoMemory, File}
+
+module _ (known : List ℕ → Option (Result (List ℕ) FileFault)) where
+  -- these are the bytes of the file of this path; or none is there, and they are none
+  abbrev pub IsReadAs : List ℕ → List ℕ → Type 0
+  IsReadAs path bytes = IsKnownAs (known path) (Ok bytes) ⊎ (IsKnownAs (known path) (Err Refused) × (bytes ≡ []))
+
+  -- the file of this path is refused; that memory was says nothing
+  abbrev pub IsUnreadAt : List ℕ → Unread → Type 0
+  IsUnreadAt path NoMemory = Unit {0}
+  IsUnreadAt path (File told) = (string_bytes told ≡ path) × IsKnownAs (known path) (Err Refused)
+
+  module _ (folder : List ℕ) where
+    -- so it is of both files of this node
+    pub record AreOfNode (node : ℕ) (files : NodeFiles) : Type 0 where
+      pub old : IsReadAs (old_journal_path folder node) files.old.items
+      pub new : IsReadAs (journal_path folder node) files.new.items
+
+    -- the old one is refused; or it is read, and the new one is refused
+    abbrev pub IsUnreadNode : ℕ → Unread → Type 0
+    IsUnreadNode node fault =
+        IsUnreadAt (old_journal_path folder node) fault
+        ⊎ ((bytes : List ℕ) × IsReadAs (old_journal_path folder node) bytes × IsUnreadAt (journal_path folder node) fault)
+
+    -- each is of the files of its node
+    pub record AreSome (found : List NodeFiles) : Type 0 where
+      pub each : (node : ℕ) (files : NodeFiles) → slice_get found node ≡ Some files → AreOfNode node files
+
+    -- there is one for each of so many nodes
+    pub record AreRead (count : ℕ) (found : List NodeFiles) : Type 0 where
+      pub count_is : length found ≡ count
+      pub some : AreSome found
+
+    -- those of the nodes before this one are read, and one of this one's files is refused
+    pub record HasUnread (count : ℕ) (fault : Unread) : Type 0 where
+      pub found : List NodeFiles
+      pub some : AreSome found
+      pub below : length found < count
+      pub refused : IsUnreadNode (length found) fault

@@ -1,0 +1,153 @@
+//! The whole command.
+
+ghost use Rattle.std.specs.Prelude.{◌≡◌, ◌≤◌, length};
+ghost use Rattle.std.specs.Arc.{arc_value};
+ghost use Rattle.cfarm_fsck_files.specs.Looking.{Found, OfFiles, OfLocked, build_fault, fsck_fault, unread_fault};
+ghost use Rattle.cfarm_fsck_files.specs.Saying.{LookedOver, Tells};
+ghost use Rattle.cfarm_files.specs.Locking.{lock_path};
+ghost use Rattle.cfarm_files.specs.Placing.{Makes};
+ghost use Rattle.cfarm_program_status.specs.Telling.{IsTold};
+
+use crate::reading::read_files;
+use crate::unread::Unread;
+use cfarm_build_faults::BuildError;
+use cfarm_files::{FileFault, Files, lock_path};
+use cfarm_fsck::{FsckError, fsck};
+use cfarm_fsck_journals::NodeFiles;
+use cfarm_output::{ErrorLines, Paced};
+use cfarm_program_status::{UNWRITTEN, tell, tell_no_memory, tell_unread};
+use farm_nodes_source::{Source, prepare};
+use paxos_core_world::quorum::Quorums;
+use rooms_hall::{Hall, Naming};
+use std::alloc::Global;
+use std::io::Write;
+use std::sync::Wait;
+use std::thread::Threads;
+
+/// Tells why nothing is built, by the line and with the status of `build`.
+#[tactic(auto, using(crate::proofs::Statuses::in_table))]
+fn tell_build<E: ErrorLines>(err: &mut E, fault: BuildError) -> u8
+    ensures told { IsTold (build_fault fault) result (E.contents err.old) (E.contents err.new) }
+    ensures table { result ≤ 7 }
+{
+    let status = fault.status();
+    tell(err, fault, status)
+}
+
+/// Tells why a folder is not told.
+fn tell_error<E: ErrorLines>(err: &mut E, fault: FsckError) -> u8
+    ensures told { IsTold (fsck_fault fault) result (E.contents err.old) (E.contents err.new) }
+    ensures table { result ≤ 7 }
+{
+    match fault {
+        FsckError::Disks(fault) => tell_build(err, BuildError::Disks(fault)),
+        FsckError::NoMemory => tell_no_memory(err),
+        FsckError::Write => tell(err, "write 701", UNWRITTEN),
+    }
+}
+
+/// Tells why the files of its journals are not read.
+fn tell_unread_file<E: ErrorLines>(err: &mut E, fault: &Unread) -> u8
+    ensures told { IsTold (unread_fault fault.now) result (E.contents err.old) (E.contents err.new) }
+    ensures table { result ≤ 7 }
+{
+    match fault {
+        Unread::NoMemory => tell_no_memory(err),
+        Unread::File(path) => tell_unread(err, path.as_str(), FileFault::Refused),
+    }
+}
+
+/// Tells what stands in the files.
+fn tell_found<H: Naming, R: Threads + Wait + Sync, W: Write, E: ErrorLines>(
+    rt: &R,
+    alloc: Global,
+    hall: &Hall<H>,
+    source: &Source,
+    quorums: Quorums,
+    found: &[NodeFiles],
+    out: &mut Paced<W>,
+    err: &mut E,
+) -> u8
+    requires size { length found.now ≡ quorums.nodes }
+    requires functions { length (arc_value source.now.translated).functions ≤ 64 }
+    ensures does { Tells W.contents E.contents (Found quorums source.now found.now) result out err }
+    ensures table { result ≤ 7 }
+{
+    let begun = &*source.translated;
+    match fsck::<H, R, Paced<W>>(rt, alloc, hall, &source.digest, begun, quorums, found, out) {
+        Ok(()) => 0,
+        Err(fault) => tell_error(err, fault),
+    }
+}
+
+/// Reads the files of the folder, and tells what stands in them.
+fn tell_files<H: Naming, R: Threads + Wait + Sync, F: Files, W: Write, E: ErrorLines>(
+    rt: &R,
+    alloc: Global,
+    hall: &Hall<H>,
+    source: &Source,
+    quorums: Quorums,
+    folder: &str,
+    files: &F,
+    out: &mut Paced<W>,
+    err: &mut E,
+) -> u8
+    requires functions { length (arc_value source.now.translated).functions ≤ 64 }
+    ensures does { Tells W.contents E.contents (OfFiles (F.known files.now) folder.now quorums source.now) result out err }
+    ensures table { result ≤ 7 }
+{
+    match read_files(alloc, folder, usize::from(quorums.nodes()), files) {
+        Ok(found) => tell_found(rt, alloc, hall, source, quorums, &found, out, err),
+        Err(fault) => tell_unread_file(err, &fault),
+    }
+}
+
+/// Takes the folder's lock, and holds it while the files are read and told.
+fn tell_locked<H: Naming, R: Threads + Wait + Sync, F: Files, W: Write, E: ErrorLines>(
+    rt: &R,
+    alloc: Global,
+    hall: &Hall<H>,
+    source: &Source,
+    quorums: Quorums,
+    folder: &str,
+    files: &mut F,
+    out: &mut Paced<W>,
+    err: &mut E,
+) -> u8
+    requires functions { length (arc_value source.now.translated).functions ≤ 64 }
+    ensures does { Tells W.contents E.contents (OfLocked (F.known files.new) folder.now quorums source.now) result out err }
+    ensures made { Makes (F.placed files.old) (F.placed files.new) (λ path. path ≡ lock_path folder.now) }
+    ensures table { result ≤ 7 }
+{
+    let Ok(path) = lock_path(alloc, folder) else {
+        return tell_no_memory(err);
+    };
+    let _lock = match files.lock(folder, &path) {
+        Ok(lock) => lock,
+        Err(fault) => return tell_unread(err, path.as_str(), fault),
+    };
+    tell_files(rt, alloc, hall, source, quorums, folder, &*files, out, err)
+}
+
+/// `fsck`: looks through the journals of a folder as a farm with these quorums over the program of a C text would open them, and tells what it
+/// finds, or the fault with which `build` would refuse the text or the folder. The text comes first, then the folder's lock, which is held to the
+/// end, then the files. Offers are checked again, by threads of `rt`.
+pub fn look_through<H: Naming, R: Threads + Wait + Sync, F: Files, W: Write, E: ErrorLines>(
+    rt: &R,
+    alloc: Global,
+    hall: &Hall<H>,
+    text: &[u8],
+    quorums: Quorums,
+    folder: &str,
+    files: &mut F,
+    out: &mut Paced<W>,
+    err: &mut E,
+) -> u8
+    ensures does { Tells W.contents E.contents (LookedOver F.Files files folder.now quorums text.now) result out err }
+    ensures table { result ≤ 7 }
+{
+    match prepare(alloc, text) {
+        Ok(source) => tell_locked(rt, alloc, hall, &source, quorums, folder, files, out, err),
+        Err(fault) => tell_build(err, BuildError::Source(fault)),
+    }
+}

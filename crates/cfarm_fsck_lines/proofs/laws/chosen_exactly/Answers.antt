@@ -1,8 +1,0 @@
-use Rattle.cfarm_fsck_lines.proofs.ChosenLemmas.{chosen_quorum, open_few}
-use Rattle.cfarm_fsck_lines.proofs.laws.chosen_exactly.Goals as goal
-
-pub returns-clause-chosen : goal.returns-clause-chosen
-returns-clause-chosen c = chosen_quorum
-
-pub returns-clause-open : goal.returns-clause-open
-returns-clause-open c = open_few

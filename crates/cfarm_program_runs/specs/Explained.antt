@@ -1,0 +1,21 @@
+-- Which answers a user is told more of.
+use Rattle.std.specs.Prelude.{Bool, false}
+use Rattle.cfarm_command_line_others.specs.declared.task.Format.TheVariants.{Plain, Gcc}
+use Rattle.cfarm_command_line_others.specs.declared.task.Task.{Task}
+use Rattle.cfarm_command_line_others.specs.declared.task.Task.TheVariants.{Check, Interpret, Build, Exec, Settle, Simulate, Show, List, Verify, Emit, Judge, Fsck}
+
+-- whether the answer of a task is explained to a user: not where a refusal is told as compilers tell editors
+abbrev pub is_explained : Bool → Task → Bool
+is_explained is_seen (Check Plain) = is_seen
+is_explained is_seen (Check Gcc) = false
+is_explained is_seen (Interpret depth) = is_seen
+is_explained is_seen (Build options) = is_seen
+is_explained is_seen (Exec limit expected) = is_seen
+is_explained is_seen Settle = is_seen
+is_explained is_seen (Simulate showing) = is_seen
+is_explained is_seen Show = is_seen
+is_explained is_seen List = is_seen
+is_explained is_seen (Verify paths) = is_seen
+is_explained is_seen (Emit emitted seed) = is_seen
+is_explained is_seen (Judge offer) = is_seen
+is_explained is_seen (Fsck options) = is_seen

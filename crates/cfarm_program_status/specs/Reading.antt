@@ -1,0 +1,32 @@
+-- What is answered where a task reads a file.
+use Rattle.std.specs.Prelude.{◌≡◌, ℕ, List, ◌++◌, Option, Result, Ok, Err, codes}
+use Rattle.cfarm_files.specs.Reading.{IsKnownAs}
+use Rattle.cfarm_files.specs.declared.fault.FileFault.{FileFault}
+use Rattle.cfarm_files.specs.declared.fault.FileFault.TheVariants.{NoMemory, Refused}
+use Rattle.cfarm_output.specs.Errors.{ErrorsHeld}
+use Rattle.cfarm_output.specs.declared.paced.Paced.{Paced}
+use Rattle.cfarm_program_status.specs.Telling.{Answer, IsTold, no_memory, told}
+
+-- the answer where a file is not read
+abbrev pub unread : List ℕ → FileFault → Answer
+unread path NoMemory = no_memory
+unread path Refused = told 2 (codes "file " ++ path)
+
+-- what a task comes to: what it answers, and what the output held and holds
+abbrev pub Coming : Type 1
+Coming = Answer → Option (List ℕ) → Option (List ℕ) → Type 0
+
+-- it came to this, which is told: the exit status, and what both writers held and hold
+abbrev pub Says : {W E : Type 0} → (W → Option (List ℕ)) → (E → ErrorsHeld) → Coming → ℕ → (before after : Paced W) → (errors_before errors_after : E) → Type 0
+Says contents errors Comes status before after errors_before errors_after =
+    (answer : Answer) × Comes answer (contents before.taker) (contents after.taker) × IsTold answer status (errors errors_before) (errors errors_after)
+
+-- a file that was read, or was not, and then nothing is printed
+abbrev pub OnRead : List ℕ → (List ℕ → Coming) → Result (List ℕ) FileFault → Coming
+OnRead path Comes (Ok bytes) answer before after = Comes bytes answer before after
+OnRead path Comes (Err fault) answer before after = (after ≡ before) × (answer ≡ unread path fault)
+
+-- the file of a path is read as it is known to be, and so it comes
+abbrev pub OnFile : (List ℕ → Option (Result (List ℕ) FileFault)) → List ℕ → (List ℕ → Coming) → Coming
+OnFile known path Comes answer before after =
+    (read : Result (List ℕ) FileFault) × IsKnownAs (known path) read × OnRead path Comes read answer before after

@@ -1,0 +1,10 @@
+pub mod Places
+pub mod Closings
+pub mod Counts
+pub mod ExecLines
+pub mod ExecStatuses
+pub mod ExecTold
+pub mod Sentences
+pub mod TextLines
+pub mod TextStatuses
+pub mod TextTold

@@ -1,3 +1,0 @@
-pub mod Few
-pub mod Made
-pub mod Pieces

@@ -1,6 +1,0 @@
-use Rattle.std.proofs.Common.{◌≡◌, length}
-use Rattle.farm_nodes_compiling.proofs.giving.optimisers_of.Given as goal
-
--- so many nodes have theirs
-abbrev pub invariant-loop-node : goal.invariant-loop-node
-invariant-loop-node l = length l.made.items ≡ l._node

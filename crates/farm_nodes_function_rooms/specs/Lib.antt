@@ -1,4 +1,0 @@
-pub mod Numbered
-pub mod Kept
-pub mod Left
-pub mod StaySettled

@@ -1,3 +1,0 @@
-pub mod FarmNodes
-pub mod Joined
-pub mod Words

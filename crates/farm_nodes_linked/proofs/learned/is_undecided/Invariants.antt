@@ -1,7 +1,0 @@
-use Rattle.farm_nodes_linked.specs.Learned.{learned_by}
-use Rattle.farm_nodes_linked.proofs.Wanting.{NoneWanting}
-use Rattle.farm_nodes_linked.proofs.learned.is_undecided.Given as goal
-
--- of the first functions none is wanting
-abbrev pub invariant-loop-function : goal.invariant-loop-function
-invariant-loop-function g l = NoneWanting (learned_by l.seats) l.function

@@ -1,0 +1,9 @@
+pub mod Seen
+pub mod Rooms
+pub mod FourRooms
+pub mod Counts
+pub mod Places
+pub mod Strange
+pub use Rattle.farm_nodes_turn_passes.proofs.Sent
+pub use Rattle.farm_nodes_turn_passes.proofs.Orders
+pub use Rattle.farm_nodes_turn_passes.proofs.Keeping

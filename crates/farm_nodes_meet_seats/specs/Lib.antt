@@ -1,0 +1,17 @@
+pub mod Held
+pub mod Learned
+pub mod Rooms
+pub mod Functions
+pub mod Counts
+pub mod Lists
+pub use Rattle.farm_nodes_turn_passes.specs.Offers
+pub use Rattle.farm_nodes_turn_passes.specs.NumberedSeat
+pub use Rattle.farm_nodes_turn_passes.specs.Fours
+pub use Rattle.farm_nodes_turn_passes.specs.Leaves
+pub use Rattle.farm_nodes_turn_passes.specs.Numbers
+pub use Rattle.farm_nodes_turn_passes.specs.Texts
+pub use Rattle.farm_nodes_turn_passes.specs.Told
+pub use Rattle.farm_nodes_turn_passes.specs.declared.which.Which
+pub use Rattle.farm_nodes_turn_passes.specs.Meeting
+pub use Rattle.farm_nodes_turn_passes.specs.SeatValue
+pub use Rattle.farm_nodes_turn_passes.specs.OfRun

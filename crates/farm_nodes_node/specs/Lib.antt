@@ -1,6 +1,0 @@
-pub mod Told
-pub mod Held
-pub mod Waiting
-pub mod Stood
-pub mod Asked
-pub mod Turning

@@ -1,5 +1,0 @@
-pub mod Halted
-pub mod Offered
-pub mod Pending
-pub mod Told
-pub mod Making

@@ -1,0 +1,120 @@
+-- Journals that are opened on pairs of disks, and one that is refused.
+use Rattle.std.specs.Prelude.{◌≡◌, ◌≢◌, ◌⊎◌, ◌↔◌, ◌+◌, ℕ, true, List, [], length, drop, Option, Some, None, Result, slice_get, MatchResult}
+use Rattle.std.specs.Global.{Vec}
+use Rattle.durable_model.specs.Honest.{Risen}
+use Rattle.durable_model.specs.Moments.{LeavesOnly}
+use Rattle.durable_model.specs.declared.disk.Disk as disks
+use Rattle.durable_pair.specs.declared.pair.Pair as pairs
+use Rattle.durable_pair.specs.Images.{Images, Both}
+use Rattle.acceptor_log_form.specs.Fault.{HasFault}
+use Rattle.acceptor_log_form.specs.Text.{StandsFor}
+use Rattle.acceptor_log_form.specs.declared.errors.LogError.{LogError}
+use Rattle.acceptor_log_form.specs.declared.errors.LogError.TheVariants.{Device, NoMemory}
+use Rattle.acceptor_log_form.specs.declared.header.Header.{Header}
+use Rattle.acceptor_log_form.specs.declared.record.Record.{Record}
+use Rattle.acceptor_log.specs.Acknowledged.{acknowledged, IsSound}
+use Rattle.acceptor_log.specs.declared.log.Log.{Log}
+use Rattle.acceptor_log_old.specs.Migrated.{migrated}
+use Rattle.acceptor_log_migrating.specs.Stands.{CanMigrate, IsMigrating, IsNotMigrated}
+use Rattle.acceptor_log_migrating.specs.Moving.{IsTurned}
+use Rattle.farm_nodes_open_journals.specs.declared.refused.RefusedPair.{RefusedPair}
+use Rattle.std.specs.Vec.Iter.{into_iter_items}
+use Rattle.paxos_core_world.specs.Quorum.{Sizes}
+use Rattle.farm_nodes_open_old.specs.OnPairs.{HasOld, HasNone, HasNew, MayShow, IsShown, IsUntouched}
+
+-- whose journal it is
+abbrev pub header_of : Sizes → List ℕ → ℕ → Header
+header_of q digest node =
+    record { nodes = q.nodes; promise = q.promise; accept = q.accept; node = node; digest = digest }
+
+module _ {P : Type 0} (disk : disks.Ghosts P) (pair : pairs.Ghosts P) where
+  -- what a crash now may leave of both; or the old journal as it is, or no more of that, and the new one is of what
+  -- migration makes of these records
+  abbrev pub MayTurn : Header → List Record → P → Images → Type 0
+  MayTurn header old p im = Both pair.new_may pair.old_may p im ⊎ IsMigrating header old (pair.old_seen p) im
+
+  -- The old journal was migrated: what is listed is what that makes of its records, and it counts no more. A crash at any
+  -- moment of it leaves one of the two journals.
+  pub record IsMigrated (header : Header) (given : P) (log : Log P) (records : List Record) : Type 0 where
+    pub old : List Record
+    pub can : CanMigrate header old (pair.old_seen given)
+    pub records_are : records ≡ migrated old
+    pub turned : IsTurned pair given log.disk
+    pub any_moment : LeavesOnly disk.moment pair.both_since given log.disk (MayTurn header old given)
+
+  -- The new journal's bytes stand for what is listed. It is as it was, and a crash at any moment of it shows what one
+  -- might have shown before.
+  pub record IsListed (header : Header) (given : P) (log : Log P) (records : List Record) : Type 0 where
+    pub stands : StandsFor header records (disk.seen given)
+    pub shown : IsShown disk pair given log.disk
+    pub any_moment : LeavesOnly disk.moment disk.left_since given log.disk (MayShow disk pair given)
+
+  -- It is the journal on the pair that was given, as the pair stands for it; where that has none it got one without
+  -- records. All of it holds of a pair whose disks are both honest, and just such a one is honest as a disk afterwards.
+  pub record IsOpened (header : Header) (given : P) (log : Log P) (records : List Record) : Type 0 where
+    pub sound : IsSound disk.is_honest disk.seen disk.may_leave log
+    pub going : log.going ≡ true
+    pub header_is : log.header ≡ header
+    pub honest : disk.is_honest log.disk ↔ pair.is_whole given
+    pub acknowledged_are : pair.is_whole given → acknowledged disk.seen log ≡ records
+    pub begun : pair.is_whole given → HasNone disk pair given → records ≡ []
+    pub listed : pair.is_whole given → HasNew disk pair given → IsListed header given log records
+    pub moved : pair.is_whole given → HasOld disk pair given → IsMigrated header given log records
+    pub unfailed : disk.faults log.disk ≡ disk.faults given
+
+  -- why a journal is refused: the old one can't be migrated; or the new one has the fault
+  abbrev pub IsDueToJournal : Header → P → LogError → Type 0
+  IsDueToJournal header given fault =
+      (HasOld disk pair given × IsNotMigrated header (pair.old_seen given) fault)
+      ⊎ (HasNew disk pair given × HasFault header (disk.seen given) fault)
+
+  -- the old journal was migrated before it was refused
+  pub record WasMigrated (header : Header) (given back : P) : Type 0 where
+    pub old : List Record
+    pub can : CanMigrate header old (pair.old_seen given)
+    pub stands : StandsFor header (migrated old) (disk.seen back)
+    pub turned : IsTurned pair given back
+
+  -- It is the pair that was given, and the journal on it has the fault; or memory or the device failed. Its old journal
+  -- may have been migrated; but for that nothing was written, where the device did not fail.
+  pub record IsRefused (header : Header) (given back : P) (fault : LogError) : Type 0 where
+    pub whole : pair.is_whole given → pair.is_whole back
+    pub refused : pair.is_whole given → fault ≢ NoMemory → fault ≢ Device → IsDueToJournal header given fault
+    pub unwritten : pair.is_whole given → fault ≢ Device
+        → IsUntouched disk pair given back ⊎ WasMigrated header given back
+    pub any_moment : pair.is_whole given → HasNew disk pair given
+        → LeavesOnly disk.moment disk.left_since given back (MayShow disk pair given)
+    pub turning : (old : List Record) → pair.is_whole given → HasOld disk pair given
+        → CanMigrate header old (pair.old_seen given)
+        → LeavesOnly disk.moment pair.both_since given back (MayTurn header old given)
+    pub failed : fault ≡ Device → Risen (disk.faults given) (disk.faults back)
+    pub unfailed : fault ≢ Device → disk.faults back ≡ disk.faults given
+
+  -- the one or the other
+  abbrev pub Opens : Header → P → Result (Log P × Vec Record) (P × LogError) → Type 0
+  Opens header given result = MatchResult result (λ opened. IsOpened header given opened.0 opened.1.items)
+      (λ refused. IsRefused header given refused.0 refused.1)
+
+  module _ (q : Sizes) (digest : List ℕ) (given : List P) where
+    -- the journals of the first nodes, on their pairs
+    pub record AreOpened (so_far : ℕ) (opened : List (Log P × Vec Record)) : Type 0 where
+      pub size : length opened ≡ so_far
+      pub each : (i : ℕ) (j : Log P × Vec Record) (p : P) → slice_get opened i ≡ Some j → slice_get given i ≡ Some p
+          → IsOpened (header_of q digest i) p j.0 j.1.items
+
+    -- The journal of a node is refused, and so is none in front of it: its pair stands between theirs and those behind it, which are as
+    -- they were. Where there was no memory to begin with, all pairs are behind.
+    pub record IsRefusedAt (node : ℕ) (fault : LogError) (opened : List (Log P × Vec Record)) (back : Option P) (behind : List P) : Type 0 where
+      pub front : AreOpened node opened
+      pub none : back ≡ None → (fault ≡ NoMemory) × (node ≡ 0) × (behind ≡ given)
+      pub some : (b : P) → back ≡ Some b → (p : P) × (slice_get given node ≡ Some p) × IsRefused (header_of q digest node) p b fault
+          × (behind ≡ drop (node + 1) given)
+
+    -- the journals of all nodes
+    abbrev pub AreAllOpened : List (Log P × Vec Record) → Type 0
+    AreAllOpened opened = AreOpened (length given) opened
+
+    -- or what comes back where one is refused
+    abbrev pub IsRefusedOf : RefusedPair P → Type 0
+    IsRefusedOf refused =
+        IsRefusedAt refused.node refused.fault refused.opened.items refused.pair (into_iter_items refused.behind)

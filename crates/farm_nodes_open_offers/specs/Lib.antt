@@ -1,0 +1,11 @@
+pub mod Written
+pub mod Stored
+pub mod Known
+pub mod KnownOffers
+pub mod Faults
+pub use Rattle.farm_nodes_turn_passes.specs.FarmNodesTurnOfferPending
+pub use Rattle.farm_nodes_turn_passes.specs.Numbers
+pub use Rattle.farm_nodes_turn_passes.specs.Offers
+pub use Rattle.farm_nodes_turn_passes.specs.declared.passes.Passes
+pub use Rattle.farm_nodes_turn_passes.specs.declared.which.Which
+pub use Rattle.farm_nodes_turn_passes.specs.AllocPass

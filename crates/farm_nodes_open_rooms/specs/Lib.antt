@@ -1,0 +1,16 @@
+pub mod Opened
+pub mod Function
+pub mod Seats
+pub use Rattle.farm_nodes_turn_passes.specs.NumberedSeat
+pub use Rattle.farm_nodes_turn_passes.specs.Numbers
+pub use Rattle.farm_nodes_turn_passes.specs.Offers
+pub use Rattle.farm_nodes_turn_passes.specs.declared.which.Which
+pub use Rattle.farm_nodes_open_numbers.specs.Kept
+pub use Rattle.farm_nodes_open_numbers.specs.Left
+pub use Rattle.farm_nodes_open_numbers.specs.declared.fault.RoomFault
+pub use Rattle.farm_nodes_turn_passes.specs.FarmNodesTurnOfferPending
+pub use Rattle.farm_nodes_turn_passes.specs.Fours
+pub use Rattle.farm_nodes_turn_passes.specs.Leaves
+pub use Rattle.farm_nodes_turn_passes.specs.Texts
+pub use Rattle.farm_nodes_turn_passes.specs.Told
+pub use Rattle.farm_nodes_open_numbers.specs.OfRun

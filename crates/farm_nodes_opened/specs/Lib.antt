@@ -1,4 +1,0 @@
-pub mod Back
-pub mod OpenNodes
-pub mod Refused
-pub mod Opened

@@ -1,6 +1,0 @@
-pub mod Walks
-pub mod Keeping
-pub mod Placing
-pub mod Answering
-pub mod Gathering
-pub mod Writing

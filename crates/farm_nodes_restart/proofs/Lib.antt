@@ -1,3 +1,0 @@
-pub mod Afterwards
-pub mod Resting
-pub mod Refusing

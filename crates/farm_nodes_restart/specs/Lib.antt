@@ -1,3 +1,0 @@
-pub mod Returned
-pub mod Seats
-pub mod Back

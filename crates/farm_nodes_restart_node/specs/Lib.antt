@@ -1,0 +1,11 @@
+pub mod Returned
+pub mod Seats
+pub mod Back
+pub use Rattle.farm_nodes_restart_records.specs.Found
+pub use Rattle.farm_nodes_restart_records.specs.Fours
+pub use Rattle.farm_nodes_restart_records.specs.Leaves
+pub use Rattle.farm_nodes_restart_records.specs.NumberedSeat
+pub use Rattle.farm_nodes_restart_records.specs.Numbers
+pub use Rattle.farm_nodes_restart_records.specs.Offers
+pub use Rattle.farm_nodes_restart_records.specs.Pending
+pub use Rattle.farm_nodes_restart_records.specs.Texts

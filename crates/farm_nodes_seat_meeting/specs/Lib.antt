@@ -1,6 +1,0 @@
-pub mod Held
-pub mod Learned
-pub mod Rooms
-pub mod Functions
-pub mod Counts
-pub mod Lists

@@ -1,4 +1,0 @@
-pub mod Places
-pub mod Inputs
-pub mod Pending
-pub mod Owned

@@ -1,0 +1,157 @@
+ghost use Rattle.std.specs.Prelude.{◌≡◌, ◌<◌, ℕ, true, None, Some, IfOk, IfErr, OnOk};
+ghost use Rattle.rand_pcg.specs.Pcg.{pcg32};
+ghost use Rattle.acceptor_log.specs.Acknowledged.{IsSound};
+ghost use Rattle.farm_nodes_turn_room.specs.Act.TheVariants as asked;
+ghost use Rattle.farm_nodes_turn_room.specs.Would.{would};
+ghost use Rattle.farm_nodes_turn_room.specs.Served.{IsServed};
+ghost use Rattle.farm_nodes_turn_room.specs.Quiet.{IsQuiet};
+ghost use Rattle.farm_nodes_turn_room.specs.Leading.{LeadsByLot};
+ghost use Rattle.farm_nodes_turn_room.specs.Logged.{HaltsBefore, LogsTurn, MayHaltFor};
+ghost use Rattle.farm_nodes_turn_room.specs.Played.{IsMadeOn, StaysInTurn};
+ghost use Rattle.farm_nodes_turn_passes.specs.Fours.{four_of};
+ghost use Rattle.farm_nodes_turn_passes.specs.Pending.{HasPending};
+ghost use Rattle.farm_nodes_turn_function.specs.InRoom.{HaltsInPass, LogsTurnIn};
+ghost use Rattle.farm_nodes_turn_function.specs.Turned.{HasLearned, IsMadeFrom, IsMadeIn, IsTooLargeFrom};
+ghost use Rattle.farm_nodes_turn_function.specs.Turned.{OthersStay, StandsAfter, StaysIn};
+
+use acceptor_log::Log;
+use durable_model::Disk;
+use farm_nodes_turn_passes::{
+    AllocationOf, ConstantsOf, ExpressionsOf, Halt, NumberedSeat, Oracles, OrderOf, Which,
+};
+use farm_nodes_turn_room::{Progress, Seat, learned_output, play};
+use lang_base::{Language, Oracle, Pass};
+use rand_pcg::Pcg32;
+use rooms_hall::Naming;
+use rtl_language::Function;
+use std::alloc::Global;
+
+/// One turn in the room of one pass of the function. The input of the first pass is the function, that of each other one the
+/// output that the node has learned in the pass before it.
+pub fn play_in<D: Disk, O: Oracles, H: Naming>(
+    alloc: Global,
+    log: &mut Log<D>,
+    seats: &mut NumberedSeat<H>,
+    pass: Which,
+    room: u16,
+    function: &Function,
+    oracles: &mut O,
+    words: &mut Pcg32,
+) -> Result<Progress, Halt>
+    requires { IsSound D.is_honest D.seen D.may_leave log.old }
+    ensures served { IsServed D.is_honest D.seen D.may_leave D.faults log.old log.new }
+    ensures going { IfOk result (λ progress. log.new.going ≡ log.old.going) }
+    ensures stays { StaysIn pass (four_of seats.old) (four_of seats.new) }
+
+    // The seats of the other passes are as they were, and the rooms keep their number.
+    ensures others { OthersStay pass (four_of seats.old) (four_of seats.new) }
+
+    // An offer of the first pass goes on from the function, one of another from the output learned in the pass before.
+    ensures made { IsMadeIn function.now pass (four_of seats.old) (four_of seats.new) }
+
+    ensures after { OnOk result (StandsAfter pass (pcg32 words.old).0 (four_of seats.old) (four_of seats.new)) }
+
+    // Where it halts it had not done what is pending.
+    ensures left { IfErr result (λ halt. HasPending seats.new room pass halt.pending) }
+
+    // What it tells is what it learned, and whether the journal has more records.
+    ensures journal { LogsTurnIn D.Disk pass log.old log.new room seats.old seats.new result }
+    ensures cause { HaltsInPass D.Disk function.now pass log.old log.new room seats.old seats.new result }
+{
+    match pass {
+        Which::Constants => play_first(
+            alloc,
+            log,
+            &mut seats.seat.first,
+            room,
+            function,
+            &mut ConstantsOf(oracles),
+            words,
+        ),
+        Which::Expressions => play_behind(
+            alloc,
+            log,
+            &seats.seat.first,
+            &mut seats.seat.second,
+            room,
+            &mut ExpressionsOf(oracles),
+            words,
+        ),
+        Which::Allocation => play_behind(
+            alloc,
+            log,
+            &seats.seat.second,
+            &mut seats.seat.third,
+            room,
+            &mut AllocationOf(oracles),
+            words,
+        ),
+        Which::Order => play_behind(
+            alloc,
+            log,
+            &seats.seat.third,
+            &mut seats.seat.fourth,
+            room,
+            &mut OrderOf(oracles),
+            words,
+        ),
+    }
+}
+
+/// One turn in the room of the first pass of the function.
+fn play_first<D: Disk, P: Pass, O: Oracle<P = P>>(
+    alloc: Global,
+    log: &mut Log<D>,
+    seat: &mut Seat<P>,
+    room: u16,
+    function: &<P::In as Language>::Fun,
+    oracle: &mut O,
+    words: &mut Pcg32,
+) -> Result<Progress, Halt>
+    requires { IsSound D.is_honest D.seen D.may_leave log.old }
+    ensures served { IsServed D.is_honest D.seen D.may_leave D.faults log.old log.new }
+    ensures going { IfOk result (λ progress. log.new.going ≡ log.old.going) }
+    ensures stays { StaysInTurn seat.old seat.new }
+    ensures made { IsMadeOn (Some function.now) seat.old seat.new }
+    ensures offered { OnOk result (seat.new.words.node.kept.offered ≡ true) }
+    ensures quiet { OnOk result ((j : ℕ) → j < seat.new.words.node.quorums.nodes
+        → IsQuiet j seat.new.words) }
+    ensures proposed { OnOk result (would seat.new.words asked.Propose ≡ None) }
+    ensures led { OnOk result (LeadsByLot (pcg32 words.old).0 seat.old.words seat.new.words) }
+    ensures left { IfErr result (HaltsBefore P.In.Language P.Out.Language P.Pass room seat.new) }
+    ensures journal { LogsTurn D.Disk P.In.Language P.Out.Language P.Pass
+        log.old log.new room seat.old seat.new result }
+    ensures cause { MayHaltFor D.Disk (P.too_large function.now) log.old log.new room seat.new.words result }
+{
+    play(alloc, log, seat, room, Some(function), oracle, words)
+}
+
+/// One turn in the room of a pass whose input is learned in the room before.
+fn play_behind<D: Disk, B: Pass, P: Pass<In = B::Out>, O: Oracle<P = P>>(
+    alloc: Global,
+    log: &mut Log<D>,
+    before: &Seat<B>,
+    seat: &mut Seat<P>,
+    room: u16,
+    oracle: &mut O,
+    words: &mut Pcg32,
+) -> Result<Progress, Halt>
+    requires { IsSound D.is_honest D.seen D.may_leave log.old }
+    ensures served { IsServed D.is_honest D.seen D.may_leave D.faults log.old log.new }
+    ensures going { IfOk result (λ progress. log.new.going ≡ log.old.going) }
+    ensures stays { StaysInTurn seat.old seat.new }
+    ensures made { IsMadeFrom before.now seat.old seat.new }
+    ensures offered { OnOk result (HasLearned before.now → seat.new.words.node.kept.offered ≡ true) }
+    ensures quiet { OnOk result ((j : ℕ) → j < seat.new.words.node.quorums.nodes
+        → IsQuiet j seat.new.words) }
+    ensures proposed { OnOk result (would seat.new.words asked.Propose ≡ None) }
+    ensures led { OnOk result (LeadsByLot (pcg32 words.old).0 seat.old.words seat.new.words) }
+    ensures left { IfErr result (HaltsBefore B.Out.Language P.Out.Language P.Pass room seat.new) }
+    ensures journal { LogsTurn D.Disk B.Out.Language P.Out.Language P.Pass
+        log.old log.new room seat.old seat.new result }
+    ensures cause { MayHaltFor D.Disk (IsTooLargeFrom P.too_large before.now)
+        log.old log.new room seat.new.words result }
+{
+    let input = learned_output(before);
+    play(alloc, log, seat, room, input, oracle, words)
+}

@@ -1,0 +1,21 @@
+pub mod Halted
+pub mod Offered
+pub mod Pending
+pub mod Told
+pub mod Making
+pub use Rattle.farm_nodes_turn_step.specs.declared.stop.Pending as FarmNodesTurnStepPending
+pub use Rattle.rooms.specs.SeatValue
+pub use Rattle.farm_nodes_turn_step.specs.SeatState
+pub use Rattle.farm_nodes_turn_step.specs.OfferIn
+pub use Rattle.farm_nodes_turn_step.specs.JournalAdvances
+pub use Rattle.farm_nodes_turn_step.specs.Ordered
+pub use Rattle.farm_nodes_turn_step.specs.Noted
+pub use Rattle.farm_nodes_turn_step.specs.OfRun
+pub use Rattle.farm_nodes_turn_step.specs.Cause
+pub use Rattle.farm_nodes_turn_step.specs.Journalled
+pub use Rattle.farm_nodes_turn_step.specs.Quiet
+pub use Rattle.farm_nodes_turn_step.specs.Served
+pub use Rattle.farm_nodes_turn_step.specs.declared.stop.Stop
+pub use Rattle.rooms.specs.Meeting
+pub use Rattle.rooms.specs.RoomsSeatMeeting
+pub use Rattle.offers.specs.declared.parts.Parts

@@ -1,0 +1,4 @@
+pub mod Recorded
+pub mod Ordered
+pub mod OfferIn
+pub use Rattle.rooms_seat.specs.Meeting

@@ -1,0 +1,27 @@
+pub mod Numbers
+pub mod Offers
+pub mod Fours
+pub mod Leaves
+pub mod Texts
+pub mod Pending
+pub use Rattle.rooms_numbered.specs.AllocPass
+pub use Rattle.rooms_numbered.specs.declared.seat.NumberedSeat
+pub use Rattle.cse_check.specs.contracts.pass.CsePass
+pub use Rattle.rooms_numbered.specs.FunctionOf
+pub use Rattle.rooms_numbered.specs.FunctionSeat
+pub use Rattle.rooms_numbered.specs.ConstPropPass
+pub use Rattle.farm_nodes_turn_offer.specs.Pending as FarmNodesTurnOfferPending
+pub use Rattle.rooms_numbered.specs.Met
+pub use Rattle.rooms_numbered.specs.FunctionMeeting
+pub use Rattle.farm_nodes_turn_offer.specs.OfferIn
+pub use Rattle.rooms_numbered.specs.LinearizePass
+pub use Rattle.farm_nodes_turn_offer.specs.Told
+pub use Rattle.farm_nodes_turn_offer.specs.Halted
+pub use Rattle.farm_nodes_turn_offer.specs.declared.halt.Halt
+pub use Rattle.farm_nodes_turn_offer.specs.SeatValue
+pub use Rattle.rooms_numbered.specs.Opened
+pub use Rattle.rooms_numbered.specs.FunctionOffers
+pub use Rattle.farm_nodes_turn_offer.specs.OfRun
+pub use Rattle.farm_nodes_turn_offer.specs.Meeting
+pub use Rattle.farm_nodes_turn_offer.specs.RoomsSeatMeeting
+pub use Rattle.farm_nodes_turn_offer.specs.SeatState

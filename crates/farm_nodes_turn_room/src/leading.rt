@@ -1,0 +1,85 @@
+//! Leading a room: proposing, and starting a ballot now and then.
+
+ghost use Rattle.std.specs.Prelude.{◌≡◌, ◌||◌, ℕ, None, IfOk, IfErr, OnOk};
+ghost use Rattle.rand_pcg.specs.Pcg.{pcg32};
+ghost use Rattle.acceptor_log.specs.Acknowledged.{IsSound};
+ghost use Rattle.rooms_seat_state.specs.declared.act.Act.TheVariants as asked;
+ghost use Rattle.rooms_seat_state.specs.Would.{would};
+ghost use Rattle.farm_nodes_turn_offer.specs.Noted.{IsActAmong};
+ghost use Rattle.farm_nodes_turn_offer.specs.Served.{IsServed};
+ghost use Rattle.farm_nodes_turn_offer.specs.Quiet.{IsQuiet};
+ghost use Rattle.farm_nodes_turn_room.specs.Acting.{LogsActs, MayStopFor};
+ghost use Rattle.farm_nodes_turn_room.specs.Leading.{may_start, is_passed, LeadsByLot, LeavesAll, StartsByLot};
+
+use acceptor_log::Log;
+use durable_model::Disk;
+use farm_nodes_turn_offer::{Stop, WordSeat, act};
+use rand_core::utils::NextWord;
+use rand_pcg::Pcg32;
+use rooms_seat_state::act::Act;
+
+/// Proposes, and starts a ballot where the node may and the next word of its generator is 0 modulo 4. Answers whether it
+/// took a step. The word is drawn only where the node may start.
+pub fn lead<D: Disk>(
+    log: &mut Log<D>,
+    seat: &mut WordSeat,
+    room: u16,
+    words: &mut Pcg32,
+) -> Result<bool, Stop>
+    requires { IsSound D.is_honest D.seen D.may_leave log.old }
+    ensures served { IsServed D.is_honest D.seen D.may_leave D.faults log.old log.new }
+    ensures going { IfOk result (λ moved. log.new.going ≡ log.old.going) }
+    ensures leaves { LeavesAll seat.old seat.new }
+
+    // What stands after it: nothing is left to propose, what was quiet is quiet, and the node has started if it was to.
+    ensures proposed { OnOk result (would seat.new asked.Propose ≡ None) }
+    ensures quiet { (j : ℕ) → IsQuiet j seat.old → IsQuiet j seat.new }
+    ensures led { OnOk result (LeadsByLot (pcg32 words.old).0 seat.old seat.new) }
+
+    // It starts no ballot without cause.
+    ensures started { StartsByLot (pcg32 words.old).0 seat.old seat.new }
+
+    ensures acting { IfErr result (λ stop. IsActAmong seat.new.node.quorums.nodes stop.pending) }
+    ensures journal { LogsActs D.Disk log.old log.new room seat.old seat.new result }
+    ensures cause { MayStopFor D.Disk log.old log.new room seat.new result }
+{
+    let proposed = match act(log, seat, room, Act::Propose) {
+        Ok(proposed) => proposed,
+        Err(stop) => return Err(stop),
+    };
+    if !may_start(seat) {
+        return Ok(proposed);
+    }
+    if words.next_word() % 4 != 0 {
+        return Ok(proposed);
+    }
+    match act(log, seat, room, Act::Start) {
+        Ok(started) => Ok(either(proposed, started)),
+        Err(stop) => Err(stop),
+    }
+}
+
+/// Whether the node may start a ballot.
+fn may_start(seat: &WordSeat) -> bool
+    ensures { result ≡ may_start seat.now.node }
+{
+    let kept = seat.kept();
+    kept.offered() && seat.learned().is_none() && is_passed(seat.ballot(), kept.promised())
+}
+
+/// Whether the ballot under way, if there is one, is below the promised one.
+fn is_passed(under_way: Option<u16>, promised: u16) -> bool
+    ensures { result ≡ is_passed under_way promised }
+{
+    match under_way {
+        None => true,
+        Some(ballot) => ballot < promised,
+    }
+}
+
+/// Whether it took a step in one or the other.
+pub(crate) fn either(first: bool, second: bool) -> bool
+    ensures { result ≡ (first || second) }
+{
+    first || second
+}

@@ -1,0 +1,9 @@
+pub mod Rooms
+pub mod Runs
+pub mod Steps
+pub mod Results
+pub mod Answering
+pub use Rattle.farm_nodes_turn_order.proofs.Orders
+pub use Rattle.farm_nodes_turn_order.proofs.Told
+pub use Rattle.farm_nodes_turn_order.proofs.Records
+pub use Rattle.rooms_crash.proofs.Keeping

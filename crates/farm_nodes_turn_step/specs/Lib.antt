@@ -1,0 +1,12 @@
+pub mod Noted
+pub mod Served
+pub mod JournalAdvances
+pub mod Journalled
+pub mod Cause
+pub mod Quiet
+pub use Rattle.farm_nodes_turn_order.specs.OfferIn
+pub use Rattle.farm_nodes_turn_order.specs.Ordered
+pub use Rattle.rooms_crash.specs.OfRun
+pub use Rattle.rooms_crash.specs.SeatState
+pub use Rattle.rooms_crash.specs.Would
+pub use Rattle.paxos_core_node_steps.specs.NodeState

@@ -1,4 +1,0 @@
-pub mod Frames
-pub mod Running
-pub mod Calls
-pub mod Returns

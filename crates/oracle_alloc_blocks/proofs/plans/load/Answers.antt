@@ -1,7 +1,0 @@
-use Rattle.oracle_alloc_blocks.proofs.plans.load.Goals as goal
-
-pub returns : goal.returns
-returns c = λ global.
-    let to = c.target_of-to.ensures in
-    let from = c.source_of-from.ensures in
-    record { first = from.step; second = tt; act = (to.register, global, from.register); after = to.step }

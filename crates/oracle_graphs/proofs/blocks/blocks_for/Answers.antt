@@ -1,0 +1,15 @@
+-- Why the loop of `blocks_for` over `n` keeps the invariant.
+use Rattle.std.proofs.Common.{length, sym, subst, ◌∙◌, arith}
+use Rattle.std.proofs.lemmas.List.{length_push}
+use Rattle.std.proofs.lemmas.List.Elements.{All-push}
+use Rattle.ltl.specs.Function.{BlockFits}
+use Rattle.rtl_language.specs.Function.{InstructionFits}
+use Rattle.oracle_graphs.proofs.blocks.blocks_for.Goals as goal
+
+pub loop-n-preserved : goal.loop-n-preserved
+loop-n-preserved c =
+    rw c.in_ok-push.ensures.items (record {
+      count = omega (arith, length_push c.loop-n.made.items c.in_ok-block_of.field-0, c.loop-n.invariant.count);
+      fit = λ registers count fits. All-push (BlockFits c.args.assignment.now.slots count) c.loop-n.made.items c.in_ok-block_of.field-0 (c.loop-n.invariant.fit registers count fits)
+          (c.in_ok-block_of.ensures registers count (subst (InstructionFits registers count) (sym c.index-nodes-n.is) (fits c.loop-n.n c.index-nodes-n.result c.loop-n-test.true)));
+    })

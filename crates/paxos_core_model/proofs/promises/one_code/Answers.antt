@@ -1,8 +1,0 @@
-use Rattle.paxos_core_model.proofs.Chains.{runs_link_one, runs_chain}
-use Rattle.paxos_core_model.proofs.promises.one_code.Goals as goal
-
-pub returns-clause-linked : goal.returns-clause-linked
-returns-clause-linked c = runs_link_one
-
-pub returns-clause-chained : goal.returns-clause-chained
-returns-clause-chained c = runs_chain

@@ -1,0 +1,9 @@
+pub mod BallotLemmas
+pub mod NoteLemmas
+pub mod WorldLemmas
+pub mod ReachedLemmas
+pub mod BelongsLemmas
+pub mod TakesLemmas
+pub mod WouldLemmas
+pub use Rattle.paxos_core_theorem.proofs.Reopens
+pub use Rattle.paxos_core_theorem.proofs.Theorem

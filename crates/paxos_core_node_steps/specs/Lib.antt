@@ -1,0 +1,23 @@
+pub mod NextBallot
+pub mod Notes
+pub mod NodeState
+pub mod Proposer
+pub mod Acceptor
+pub mod Learner
+pub mod Message
+pub mod Reached
+pub mod Belongs
+pub mod Taken
+pub mod Takes
+pub mod Would
+pub mod Law
+pub use Rattle.paxos_core_theorem.specs.Agreement
+pub use Rattle.paxos_core_theorem.specs.OneCode
+pub use Rattle.paxos_core_theorem.specs.Invariant
+pub use Rattle.paxos_core_world.specs.KeptPart
+pub use Rattle.paxos_core_world.specs.Quorum
+pub use Rattle.paxos_core_world.specs.Run
+pub use Rattle.paxos_core_world.specs.Step as PaxosCoreWorldStep
+pub use Rattle.paxos_core_world.specs.World
+pub use Rattle.paxos_core_world.specs.declared.msg.Msg
+pub use Rattle.paxos_core_world.specs.declared.vote.Vote

@@ -1,0 +1,13 @@
+pub mod Hearing
+pub mod Looked
+pub mod Meetings
+pub mod Sweeps
+pub mod Openings
+pub use Rattle.rooms_seat_state.proofs.Acts
+pub use Rattle.rooms_seat_state.proofs.HearLemmas
+pub use Rattle.rooms_seat_state.proofs.Looks
+pub use Rattle.rooms_seat_state.proofs.Moves
+pub use Rattle.rooms_seat_state.proofs.OfferLemmas
+pub use Rattle.rooms_seat_state.proofs.Opened
+pub use Rattle.rooms_seat_state.proofs.Told
+pub use Rattle.rooms_seat_state.proofs.Stays

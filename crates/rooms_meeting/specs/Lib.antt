@@ -1,0 +1,10 @@
+pub mod Met
+pub mod Seen
+pub use Rattle.rooms_rights.specs.Sweep
+pub use Rattle.rooms_rights.specs.declared.seen.SeenWords
+pub use Rattle.rooms_seat_state.specs.Did
+pub use Rattle.rooms_seat_state.specs.RoomAt
+pub use Rattle.rooms_seat_state.specs.SeatState
+pub use Rattle.rooms_seat_state.specs.Sound
+pub use Rattle.rooms_seat_state.specs.Would
+pub use Rattle.rooms_seat_state.specs.declared.act.Act

@@ -1,5 +1,0 @@
-//! What a seat holds of its room's words and knows of its room, what it knows once it has looked at all words, and what two seats
-//! know once they have met; how rooms that can be opened open in a table. Definitions and lemmas alone, on which the calls of a
-//! seat stand.
-#![tactic(auto)]
-

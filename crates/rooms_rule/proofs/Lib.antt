@@ -1,4 +1,0 @@
-pub mod RunLemmas
-pub mod WordLemmas
-pub mod Advance
-pub mod Deal

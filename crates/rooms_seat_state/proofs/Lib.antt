@@ -1,0 +1,10 @@
+pub mod Moves
+pub mod Acts
+pub mod Opened
+pub mod Told
+pub use Rattle.rooms_steps.proofs.HearLemmas
+pub use Rattle.rooms_steps.proofs.Looks
+pub use Rattle.rooms_steps.proofs.OfferLemmas
+pub use Rattle.rooms_steps.proofs.Stays
+pub use Rattle.paxos_core_node_steps.proofs.Theorem
+pub use Rattle.paxos_core_node_steps.proofs.WorldLemmas

@@ -1,0 +1,12 @@
+pub mod SeatState
+pub mod Sound
+pub mod Did
+pub mod Would
+pub use Rattle.rooms_words.specs.LateOffer
+pub use Rattle.rooms_table.specs.RoomAt
+pub use Rattle.rooms_words.specs.declared.proposer.ProposerWord
+pub use Rattle.paxos_core_node_steps.specs.Acceptor
+pub use Rattle.paxos_core_node_steps.specs.Learner
+pub use Rattle.paxos_core_node_steps.specs.NodeState
+pub use Rattle.paxos_core_node_steps.specs.Notes
+pub use Rattle.paxos_core_node_steps.specs.Proposer

@@ -1,4 +1,0 @@
-pub mod Moves
-pub mod Acts
-pub mod Opened
-pub mod Told

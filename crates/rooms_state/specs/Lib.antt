@@ -1,4 +1,0 @@
-pub mod SeatState
-pub mod Sound
-pub mod Did
-pub mod Would

@@ -1,0 +1,5 @@
+pub mod Functions
+pub mod Globals
+pub mod NameBytes
+pub mod Programs
+pub mod Read

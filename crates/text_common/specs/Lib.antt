@@ -1,0 +1,3 @@
+pub mod Functions
+pub mod Programs
+pub mod Acts

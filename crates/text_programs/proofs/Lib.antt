@@ -1,4 +1,0 @@
-pub mod Functions
-pub mod Globals
-pub mod NameBytes
-pub mod Programs

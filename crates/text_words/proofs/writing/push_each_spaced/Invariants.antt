@@ -1,6 +1,0 @@
-use Rattle.std.proofs.Common.{◌≡◌, ◌++◌, take}
-use Rattle.text_words.specs.Lines.{spaced_each}
-use Rattle.text_words.proofs.writing.push_each_spaced.Given as goal
-
-abbrev pub invariant-loop-item : goal.invariant-loop-item
-invariant-loop-item g l = l.out.items ≡ l.fn.out.items ++ spaced_each g.S.SpacedWord.word (take l.item-index l.items)

@@ -1,7 +1,0 @@
-use Rattle.std.proofs.Common.{subst}
-use Rattle.lang_base.specs.Texts.{Appends}
-use Rattle.text_words.proofs.Lines.{spaced_map}
-use Rattle.text_words.proofs.writing.push_each_word.Goals as goal
-
-pub returns : goal.returns
-returns g c = subst (λ t. Appends c.push_each_spaced.result t c.args.out.now.items c.push_each_spaced.new.out.items) (spaced_map g.S.SpacedWord.word c.args.items.now) c.push_each_spaced.ensures
