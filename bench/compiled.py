@@ -29,8 +29,8 @@ from laid_out import LaidOut, ROOT
 
 CFARM = os.path.join(ROOT, "crates", "cfarm", "out", "cfarm")
 LAID = LaidOut(
-    "compiled.patch",
-    "linked: chains farm_nodes_compiling farm_nodes_source linker offers_choice offers linearize_check alloc_check cse_check "
+    "bench/compiled.patch",
+    "linked: chains_made farm_nodes farm_nodes_source linker offers linearize_check alloc_check cse_check "
     "constprop_check rtl_language linear_language lang lang_base anyhow rand_pcg\n",
 )
 LINKED = LAID.program

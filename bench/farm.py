@@ -22,9 +22,9 @@ import tempfile
 from laid_out import LaidOut, ROOT
 
 LAID = LaidOut(
-    "farm.patch",
+    "bench/farm.patch",
     "farmed may_wait=8: chains farm_nodes durable_pair_files durable_pair_memory durable_pair durable_model parallel_validate oracle_const oracle_cse oracle_alloc"
-    " oracle_order offers_choice offers rtl_language linear_language lang_base rand_pcg\n",
+    " oracle_order offers rtl_language linear_language lang_base rand_pcg\n",
 )
 PROGRAM = LAID.program
 

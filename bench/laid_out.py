@@ -1,4 +1,4 @@
-"""A crate of the benches that is no part of the gate: it stands as a patch beside them, and is laid out in the tree, proved and built where it is used."""
+"""A crate that is no part of the gate: it stands as a patch in bench/ or tests/outside/, and is laid out in the tree, proved and built where it is used."""
 import os
 import subprocess
 
@@ -7,10 +7,10 @@ PLAN = os.path.join(ROOT, "crates.txt")
 
 
 class LaidOut:
-    """The crate that a line of the floor plan names, and the patch (of bench/) that has its files."""
+    """The crate that a line of the floor plan names, and the patch (a path below the top) that has its files."""
 
     def __init__(self, patch, line):
-        self.patch = os.path.join(ROOT, "bench", patch)
+        self.patch = os.path.join(ROOT, patch)
         self.line = line
         crate = line.partition(":")[0].split()[0]
         self.folder = os.path.join(ROOT, "crates", crate)

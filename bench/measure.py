@@ -11,12 +11,13 @@ import sys
 from laid_out import LaidOut
 
 LAID = LaidOut(
-    "measure.patch",
-    "measure may_wait=5: chains c_checker cminor rtlgen c_reader c_lexer cminor_language rtl_language rtl lang_parts"
-    " lang linear_language linear oracle_const constprop_check oracle_cse oracle_alloc oracle_order offers_choice offers"
+    "bench/measure.patch",
+    "measure may_wait=5: chains c_checker cminor rtlgen c_reader c_lexer cminor_language rtl_language rtl lang_helpers"
+    " lang linear_language linear oracle_const constprop_check oracle_cse oracle_alloc oracle_order offers"
     " parallel_validate lang_base anyhow rand_pcg rand_core\n",
 )
 
 
 if __name__ == "__main__":
-    sys.exit(LAID.remove() if sys.argv[1:] == ["--remove"] else LAID.add())
+    asked = {"": LAID.add, "--remove": LAID.remove}.get(" ".join(sys.argv[1:]))
+    sys.exit(asked() if asked else __doc__)

@@ -11,7 +11,7 @@ files costs when it is opened.
 The text has 64 functions, so 256 rooms. The journal of node 0 of three is filled in two ways: with ballots that this node started and
 promised, 20 bytes for two records; and with one offer a room, which is none that a pass accepts, so the build is refused behind the
 migration, as it is behind opening. Each is opened by `build --turns 0`; what such a build takes over empty journals is taken off the
-seconds. A journal that was migrated is compared with what it must become (bench/aged.py).
+seconds. A journal that was migrated is compared with what it must become (tests/outside/aged.py).
 
 The second table counts, by strace, the syncs and reads of the files of three nodes, and the bytes read of them: over new journals alone,
 and over the same with spent old ones beside, of each of which one byte is read.
@@ -29,9 +29,10 @@ import subprocess
 import sys
 import tempfile
 
+ROOT = os.path.dirname(os.path.dirname(os.path.realpath(__file__)))
+sys.path.append(os.path.join(ROOT, "tests", "outside"))
 import aged
 
-ROOT = os.path.dirname(os.path.dirname(os.path.abspath(__file__)))
 TEXT = "".join(f"int f{n}(void){{return {n};}}\n" for n in range(63)) + "int main(void){return 0;}\n"
 ROOMS, OWN = 256, 21_845
 

@@ -15,7 +15,7 @@ import sys
 
 from laid_out import LaidOut
 
-LAID = LaidOut("rooms.patch", "looked: rooms_seat paxos_core\n")
+LAID = LaidOut("bench/rooms.patch", "looked: rooms_seat paxos_core\n")
 PROGRAM = LAID.program
 COUNT = 10_000_000
 
@@ -33,4 +33,5 @@ def speed():
 
 
 if __name__ == "__main__":
-    sys.exit({"--remove": LAID.remove, "--speed": speed}.get(sys.argv[1] if sys.argv[1:] else "", LAID.add)())
+    asked = {"": LAID.add, "--remove": LAID.remove, "--speed": speed}.get(" ".join(sys.argv[1:]))
+    sys.exit(asked() if asked else __doc__)

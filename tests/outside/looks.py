@@ -1,9 +1,9 @@
 #!/usr/bin/env python3
 """What `cfarm log` and `cfarm fsck` must print, from docs/FORMATS.md alone, and whether a program prints that.
 
-    bench/looks.py --program PATH [--only log|fsck] [--quick]   tries the program over made journals and folders
-    bench/looks.py --log FILE                                   prints what `log` must print of a journal, and its status
-    bench/looks.py --fsck NAME,NAME.. FOLDER [--sizes N,Q,Q]    the same for `fsck`, of a folder that `build` does not refuse, and these functions
+    tests/outside/looks.py --program PATH [--only log|fsck] [--quick]   tries the program over made journals and folders
+    tests/outside/looks.py --log FILE                                   prints what `log` must print of a journal, and its status
+    tests/outside/looks.py --fsck NAME,NAME.. FOLDER [--sizes N,Q,Q]    the same for `fsck`, of a folder that `build` does not refuse, and these functions
 
 Journals of all forms, each record in them, each cut at each length and a small one with each byte changed; folders that the program's own `build` leaves
 after few turns and many, journals of the first version among them, some of them broken. Of a folder that is refused the line and the status must be
@@ -19,7 +19,6 @@ import sys
 import tempfile
 from concurrent.futures import ThreadPoolExecutor
 
-sys.path.insert(0, os.path.dirname(os.path.realpath(__file__)))
 import aged
 
 SEVEN = "int main(void){return 7;}"

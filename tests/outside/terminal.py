@@ -1,10 +1,10 @@
 #!/usr/bin/env python3
 """Runs the built program in terminals of 28, 80 and 200 columns (tmux) and compares what stands on the screen with what is to be shown.
 
-    bench/terminal.py                  all cases at each width
-    bench/terminal.py --columns 80     at this width
-    bench/terminal.py --case progress  only the cases with this in their names
-    bench/terminal.py --program PATH   this program
+    tests/outside/terminal.py                  all cases at each width
+    tests/outside/terminal.py --columns 80     at this width
+    tests/outside/terminal.py --case progress  only the cases with this in their names
+    tests/outside/terminal.py --program PATH   this program
 
 Shown are: the lines of a program that prints and then loops, while it loops; a build's progress, and nothing of it behind; excerpts for
 faults at the first and the last byte, behind tabs, in a line of 10 MB and behind bytes that are no ASCII; hints at eleven texts that a C
@@ -23,7 +23,7 @@ import time
 
 import aged
 
-ROOT = os.path.dirname(os.path.dirname(os.path.abspath(__file__)))
+ROOT = os.path.dirname(os.path.dirname(os.path.dirname(os.path.realpath(__file__))))
 ROWS = 50
 MOST = 100
 PRINTS = b"int putchar(int);\nint main(void){putchar('h');putchar('i');putchar('\\n');%s}\n"

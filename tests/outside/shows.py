@@ -1,10 +1,10 @@
 #!/usr/bin/env python3
 """The text of a program or of a written offer, by docs/FORMATS.md alone, and whether `cfarm show` prints the same.
 
-    bench/shows.py FILE                          prints the text of a file, or the number of its refusal
-    bench/shows.py --program CFARM               compares `CFARM show` with it over the examples' programs and offers, and a program of 65,535
-                                                 nodes of each language (with the time that took); and programs that differ in one byte
-    bench/shows.py --program CFARM --vectors D   also over each form in D/forms.txt, D/run.txt, D/why.txt and D/why-marked.txt
+    tests/outside/shows.py FILE                          prints the text of a file, or the number of its refusal
+    tests/outside/shows.py --program CFARM               compares `CFARM show` with it over the examples' programs and offers, and a program of 65,535
+                                                         nodes of each language (with the time that took); and programs that differ in one byte
+    tests/outside/shows.py --program CFARM --vectors D   also over each form in D/forms.txt, D/run.txt, D/why.txt and D/why-marked.txt
 
 Programs that differ differ in the text: of each program that is read, other bytes are tried at each place, and what is read of them has another text."""
 import argparse
@@ -16,7 +16,7 @@ import sys
 import tempfile
 import time
 
-ROOT = os.path.dirname(os.path.dirname(os.path.realpath(__file__)))
+ROOT = os.path.dirname(os.path.dirname(os.path.dirname(os.path.realpath(__file__))))
 OPERATORS = " NegS NegU Not IsZero AddS AddU SubS SubU MulS MulU DivS DivU ModS ModU And Or Xor ShlS ShlU ShrS ShrU Eq Ne LtS LtU LeS LeU".split(" ")
 CONDITIONS = "Nz Eq Ne LtS LtU LeS LeU".split()
 TITLES = {1: "cminor", 2: "rtl", 3: "ltl", 4: "linear"}

@@ -1,15 +1,15 @@
 #!/usr/bin/env python3
 """Journals on real files and in memory, by the program `journaled`: kills, failed calls, speed.
 
-    bench/journals.py              lays out crates/journaled, proves it and builds it
-    bench/journals.py --remove     takes it out again
-    bench/journals.py --kills N    N times over: a program that appends is killed at a random moment; after each kill the
-                                   journal must open with what was acknowledged, or with one record more
-    bench/journals.py --calls      each call of the system that opens, reads, writes or syncs fails in turn; after each the
-                                   journal must open with what was acknowledged, or with one record more
-    bench/journals.py --speed      appends in memory and on a file, and opening, beside plain Python and C that do the same
+    tests/outside/journals.py              lays out crates/journaled, proves it and builds it
+    tests/outside/journals.py --remove     takes it out again
+    tests/outside/journals.py --kills N    N times over: a program that appends is killed at a random moment; after each kill the
+                                           journal must open with what was acknowledged, or with one record more
+    tests/outside/journals.py --calls      each call of the system that opens, reads, writes or syncs fails in turn; after each the
+                                           journal must open with what was acknowledged, or with one record more
+    tests/outside/journals.py --speed      appends in memory and on a file, and opening, beside plain Python and C that do the same
 
-It is no part of the gate, so it stands as a patch, bench/journals.patch, and is proved whenever it is used. Remove it
+It is no part of the gate, so it stands as a patch, tests/outside/journals.patch, and is proved whenever it is used. Remove it
 before anything is committed."""
 import argparse
 import hashlib
@@ -23,9 +23,10 @@ import sys
 import tempfile
 import time
 
+sys.path.append(os.path.join(os.path.dirname(os.path.realpath(__file__)), os.pardir, os.pardir, "bench"))
 from laid_out import LaidOut, ROOT
 
-LAID = LaidOut("journals.patch", "journaled: acceptor_log durable_model lang_base\n")
+LAID = LaidOut("tests/outside/journals.patch", "journaled: acceptor_log durable_model lang_base\n")
 PROGRAM = LAID.program
 HEADER = b"CFJ2\x03\x02\x02\x00" + b"\x07" * 32
 

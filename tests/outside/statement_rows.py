@@ -1,8 +1,8 @@
 #!/usr/bin/env python3
 """What a C compiler says of `do`, compound assignment, `++` and `--`, as rows of crates/worked_rows/data/statements.txt.
 
-    bench/statement_rows.py             prints the rows
-    bench/statement_rows.py --compare   compares the rows that stand there with those
+    tests/outside/statement_rows.py             prints the rows
+    tests/outside/statement_rows.py --compare   compares the rows that stand there with those
 
 A row: the bound, the program, its output and its closing line, with tabs between. The rows:
 
@@ -18,7 +18,7 @@ import subprocess
 import sys
 import tempfile
 
-ROOT = os.path.dirname(os.path.dirname(os.path.abspath(__file__)))
+ROOT = os.path.dirname(os.path.dirname(os.path.dirname(os.path.realpath(__file__))))
 ROWS = os.path.join(ROOT, "crates", "worked_rows", "data", "statements.txt")
 BOUND = 100000
 
@@ -263,7 +263,9 @@ def rows():
 
 
 def main():
-    if sys.argv[1:] != ["--compare"]:
+    if sys.argv[1:] not in ([], ["--compare"]):
+        sys.exit(__doc__)
+    if not sys.argv[1:]:
         print("\n".join(rows()))
         return
     with open(ROWS) as file:

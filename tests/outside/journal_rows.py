@@ -2,12 +2,13 @@
 """Writes crates/worked_rows/data/changed.txt: what each journal stands for that differs from a given one in a single
 byte, whatever the byte, and what each front of the given one stands for.
 
-    bench/journal_rows.py
+    tests/outside/journal_rows.py
 
 The answers are made by the reading below, which stands on the form of a journal alone (docs/FORMATS.md, "A journal")."""
 import os
+import sys
 
-ROOT = os.path.dirname(os.path.dirname(os.path.realpath(__file__)))
+ROOT = os.path.dirname(os.path.dirname(os.path.dirname(os.path.realpath(__file__))))
 FILE = os.path.join(ROOT, "crates", "worked_rows", "data", "changed.txt")
 FIRST = b"CFJ1" + bytes([3, 1]) + bytes(range(100, 132))
 SECOND = b"CFJF" + bytes([4, 3, 3, 1]) + bytes(range(100, 132))
@@ -109,8 +110,10 @@ def rows():
 
 
 def main():
+    if sys.argv[1:]:
+        sys.exit(__doc__)
     with open(FILE, "w", encoding="utf-8") as file:
-        file.write("# Made by bench/journal_rows.py. `[..]`: the records; else the fault; `*N`: N times in a row.\n")
+        file.write("# Made by tests/outside/journal_rows.py. `[..]`: the records; else the fault; `*N`: N times in a row.\n")
         file.writelines(f"{row}\n" for row in rows())
 
 

@@ -1,18 +1,18 @@
 #!/usr/bin/env python3
 """Each allocation refused in turn in calls of the libraries, by the program `refused`.
 
-    bench/refused.py                lays out crates/refused, proves it and builds it
-    bench/refused.py --remove       takes it out again
-    bench/refused.py --sweep        all calls, each allocation refused once, and from then on
-    bench/refused.py --sweep read   this call
-    bench/refused.py --program PATH this program
+    tests/outside/refused.py                lays out crates/refused, proves it and builds it
+    tests/outside/refused.py --remove       takes it out again
+    tests/outside/refused.py --sweep        all calls, each allocation refused once, and from then on
+    tests/outside/refused.py --sweep read   this call
+    tests/outside/refused.py --program PATH this program
 
 The calls are `Farm::open` of three nodes on empty disks, `linked`, which hands the chains that a farm has agreed on to `link`, `restart` of
 one of its nodes, `meet` of two of them, in which their seats meet, `append` to a journal, `Offer::read`, `check_all` of eight jobs with two
 workers, `offer` of a seat, and every other call of a seat. The program makes the input of a call, which is no part of what is tried; only
 what is allocated in the call is refused, and each thread that it makes. An answer is right where it is the one without a fault, or NoMemory;
 then the call, made again on what came back, answers what it answers without a fault. It prints a table, then what was wrong, which must be
-nothing; its status is 1 where something was. It is no part of the gate, so the program stands as a patch, bench/refused.patch, and is proved
+nothing; its status is 1 where something was. It is no part of the gate, so the program stands as a patch, tests/outside/refused.patch, and is proved
 whenever it is used. Remove it before anything is committed."""
 import argparse
 import os
@@ -20,13 +20,15 @@ import subprocess
 import sys
 import tempfile
 
-from laid_out import LaidOut
 import shim
 
+sys.path.append(os.path.join(os.path.dirname(os.path.realpath(__file__)), os.pardir, os.pardir, "bench"))
+from laid_out import LaidOut
+
 LAID = LaidOut(
-    "refused.patch",
-    "refused may_wait=10: farm_nodes farm_nodes_node farm_nodes_passes acceptor_log acceptor_log_form rooms_numbered"
-    " rooms_hall rooms_seat rooms rooms_rule paxos_core durable_pair_memory durable_model parallel_validate offers linker lang linearize_check linear_language"
+    "tests/outside/refused.patch",
+    "refused may_wait=10: farm_nodes farm_nodes_turn_node farm_nodes_turn_passes acceptor_log acceptor_log_form rooms_numbered"
+    " rooms_hall rooms_seat rooms rooms_words paxos_core durable_pair_memory durable_model parallel_validate offers linker lang linearize_check linear_language"
     " cminor_program_ranges c_checker_rules lang_base hex rand_pcg\n",
 )
 PROGRAM = LAID.program

@@ -1,13 +1,13 @@
 #!/usr/bin/env python3
 """Kills `cfarm build` at random moments and builds again, as often as asked for.
 
-    bench/kills.py                 100 directories, each with one to five kills
-    bench/kills.py --times 10      so many directories
-    bench/kills.py --nodes 3       so many nodes (5)
-    bench/kills.py --nodes 4 --promise 3 --accept 2
-    bench/kills.py --aged          behind the first kill the journals of some nodes are made into ones of the first version (bench/aged.py), which
-                                   the next builds migrate
-    bench/kills.py --program PATH  this program
+    tests/outside/kills.py                 100 directories, each with one to five kills
+    tests/outside/kills.py --times 10      so many directories
+    tests/outside/kills.py --nodes 3       so many nodes (5)
+    tests/outside/kills.py --nodes 4 --promise 3 --accept 2
+    tests/outside/kills.py --aged          behind the first kill the journals of some nodes are made into ones of the first version (tests/outside/aged.py), which
+                                           the next builds migrate
+    tests/outside/kills.py --program PATH  this program
 
 In each directory a build of an example is killed (SIGKILL) one to five times, each at another moment, and then one goes on to its end.
 Whatever stood in linked.cfp behind a kill must be the bytes that the last build leaves, a program that was reported must be that one and
@@ -26,7 +26,7 @@ import time
 
 import aged
 
-ROOT = os.path.dirname(os.path.dirname(os.path.abspath(__file__)))
+ROOT = os.path.dirname(os.path.dirname(os.path.dirname(os.path.realpath(__file__))))
 PROGRAM = os.path.join(ROOT, "crates", "cfarm", "out", "cfarm")
 NAMES = ("cubes", "queens", "collatz")
 

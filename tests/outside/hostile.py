@@ -1,19 +1,19 @@
 #!/usr/bin/env python3
 """Runs the built program under faults, from outside, and tells how it answers.
 
-    bench/hostile.py                  all parts, the whole sweep
-    bench/hostile.py memory files     these parts
-    bench/hostile.py --quick          a sample of each part
-    bench/hostile.py --program PATH   this program
-    bench/hostile.py --jobs 2         so many runs at once (4)
-    bench/hostile.py --most 500       at most so many faults in a row of the table, spread evenly (all)
-    bench/hostile.py calls --row 'build, fresh' --at 57 --keep
-                                      one fault of one row; what is left stays in the folder that is told
+    tests/outside/hostile.py                  all parts, the whole sweep
+    tests/outside/hostile.py memory files     these parts
+    tests/outside/hostile.py --quick          a sample of each part
+    tests/outside/hostile.py --program PATH   this program
+    tests/outside/hostile.py --jobs 2         so many runs at once (4)
+    tests/outside/hostile.py --most 500       at most so many faults in a row of the table, spread evenly (all)
+    tests/outside/hostile.py calls --row 'build, fresh' --at 57 --keep
+                                              one fault of one row; what is left stays in the folder that is told
 
     memory    the nth allocation is refused, or thread not made, once and from then on, in each command
     threads   the nth thread is not made, once and from then on, in each command
     calls     the nth call of the system fails, once and from then on, or is interrupted, or reads or writes less than it was asked to
-    kills     a build is killed at its nth call of the system, and builds are killed at random moments (bench/kills.py); in folders with journals
+    kills     a build is killed at its nth call of the system, and builds are killed at random moments (tests/outside/kills.py); in folders with journals
               of the first version it is killed while it migrates them, too
     journals  each journal of a small build is cut at each length and changed at each byte, one at a time: those that the build left, those of the
               first version with the same records, and those that these were migrated to
@@ -26,7 +26,7 @@
 An answer is right where it is the one without a fault, or a status and a line of the program's table; want of memory is answered by `memory`,
 7, alone. Never is it a signal, nor an output that is not a beginning of the right one. Behind each fault of a build linked.cfp is whole or
 is not there, and a build without faults ends with 0 and leaves what stood there. A journal of the first version is as it was, or spent behind the
-very one that it is to be migrated to (bench/aged.py), and none is made. It prints a table: what was tried, how often, what was
+very one that it is to be migrated to (tests/outside/aged.py), and none is made. It prints a table: what was tried, how often, what was
 answered, and how long the slowest trial took; then what was wrong, which must be nothing. Its status is 1 where something was."""
 import argparse
 import collections
@@ -48,7 +48,7 @@ import aged
 import kills
 import shim
 
-ROOT = os.path.dirname(os.path.dirname(os.path.abspath(__file__)))
+ROOT = os.path.dirname(os.path.dirname(os.path.dirname(os.path.realpath(__file__))))
 TEXT = """int putchar(int);
 int f(int n){int r; putchar('0'+n); if(n<2)return 1; r=f(n-1); putchar('a'+n); return n*r;}
 int main(void){int x=f(5); return x;}

@@ -1,19 +1,19 @@
 #!/usr/bin/env python3
 """The drawing of a schedule, made from docs/PROTOCOL.md and docs/FORMATS.md alone, by no code of the product.
 
-    bench/drawings.py SCHEDULE            prints the drawing that `cfarm sim SCHEDULE --svg` is to print
-    bench/drawings.py SCHEDULE --lines    prints the lines of `cfarm sim SCHEDULE`
-    bench/drawings.py SCHEDULE --row      prints the row of commands.txt that asks for the drawing
-    bench/drawings.py SCHEDULE --ask PROGRAM     asks that program for both, and says what differs; its drawing has to be XML whose text
-                                          is the lines, and no line of it over 1,024 bytes
-    bench/drawings.py --docs              writes the drawings in docs/drawings
-    bench/drawings.py --docs PROGRAM      says which of these are not what that program prints, and what differs as above"""
+    tests/outside/drawings.py SCHEDULE            prints the drawing that `cfarm sim SCHEDULE --svg` is to print
+    tests/outside/drawings.py SCHEDULE --lines    prints the lines of `cfarm sim SCHEDULE`
+    tests/outside/drawings.py SCHEDULE --row      prints the row of commands.txt that asks for the drawing
+    tests/outside/drawings.py SCHEDULE --ask PROGRAM     asks that program for both, and says what differs; its drawing has to be XML whose text
+                                                  is the lines, and no line of it over 1,024 bytes
+    tests/outside/drawings.py --docs              writes the drawings in docs/drawings
+    tests/outside/drawings.py --docs PROGRAM      says which of these are not what that program prints, and what differs as above"""
 import os
 import subprocess
 import sys
 import xml.etree.ElementTree as trees
 
-ROOT = os.path.dirname(os.path.dirname(os.path.realpath(__file__)))
+ROOT = os.path.dirname(os.path.dirname(os.path.dirname(os.path.realpath(__file__))))
 # The drawings in docs/drawings, and the schedule of each.
 SHOWN = {"adoption": "examples/adoption.txt", "restart": "docs/drawings/restart.txt"}
 MARKS = {

@@ -1,9 +1,9 @@
 #!/usr/bin/env python3
 """What a C compiler says of programs, as rows of crates/worked_rows/data/gcc.txt.
 
-    bench/gcc_rows.py FILE          one program a line: prints its row
-    bench/gcc_rows.py --compare     compares the rows that stand in gcc.txt with the compiler
-    bench/gcc_rows.py --examples    prints the rows of examples.txt: the programs of examples/, in hex
+    tests/outside/gcc_rows.py FILE          one program a line: prints its row
+    tests/outside/gcc_rows.py --compare     compares the rows that stand in gcc.txt with the compiler
+    tests/outside/gcc_rows.py --examples    prints the rows of examples.txt: the programs of examples/, in hex
 
 A row: the bound, the program, its output and its closing line, with tabs between. A row in hex: the program, the
 bound, the output and the closing line, with blanks between. The programs never go wrong.
@@ -13,7 +13,7 @@ import subprocess
 import sys
 import tempfile
 
-ROOT = os.path.dirname(os.path.dirname(os.path.abspath(__file__)))
+ROOT = os.path.dirname(os.path.dirname(os.path.dirname(os.path.realpath(__file__))))
 ROWS = os.path.join(ROOT, "crates", "worked_rows", "data", "gcc.txt")
 DRIVER = '#include <stdio.h>\nint program_main(void);\nint main(void) { int r = program_main(); fflush(stdout); fprintf(stderr, "%d", r); return 0; }\n'
 
@@ -50,6 +50,8 @@ def example_rows():
 
 
 def main():
+    if len(sys.argv) != 2 or sys.argv[1] == "--help":
+        sys.exit(__doc__)
     if sys.argv[1:] == ["--compare"]:
         with open(ROWS) as file:
             rows = file.read().splitlines()

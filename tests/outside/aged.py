@@ -1,11 +1,11 @@
 #!/usr/bin/env python3
 """Journals of the first version: what they are migrated to, and how they are made of new ones. It stands on the form alone
-(docs/FORMATS.md, "A journal"), and is read by bench/hostile.py and bench/kills.py.
+(docs/FORMATS.md, "A journal"), and is read by tests/outside/hostile.py and tests/outside/kills.py.
 
-    bench/aged.py FOLDER           makes old journals of the new ones in a folder, which must have no summary yet
-    bench/aged.py --migrated FILE  prints the new journal, in hex, that an old one becomes, or the number of its fault
-    bench/aged.py --rows FILE      reads rows `nodes promise accept node old new fault`, in hex with `-` for none, and tells how many agree; the digest
-                                   that is asked for is 32 times the byte that is there most often"""
+    tests/outside/aged.py FOLDER           makes old journals of the new ones in a folder, which must have no summary yet
+    tests/outside/aged.py --migrated FILE  prints the new journal, in hex, that an old one becomes, or the number of its fault
+    tests/outside/aged.py --rows FILE      reads rows `nodes promise accept node old new fault`, in hex with `-` for none, and tells how many agree; the digest
+                                           that is asked for is 32 times the byte that is there most often"""
 import os
 import sys
 

@@ -1,13 +1,13 @@
 #!/usr/bin/env python3
 """Farms whose nodes have different builders, and offers from outside that are no good.
 
-    bench/builders.py                   all of it, of crates/cfarm/out/cfarm
-    bench/builders.py --program PATH    of this program
-    bench/builders.py --only spoiled    one part of it: orders, spoiled
-    bench/builders.py --rows FOLDER     writes the files of a few rows into the folder, and prints the rows: what they say is worked out here, but
-                                        for the RTL that the offers begin with
+    tests/outside/builders.py                   all of it, of crates/cfarm/out/cfarm
+    tests/outside/builders.py --program PATH    of this program
+    tests/outside/builders.py --only spoiled    one part of it: orders, spoiled
+    tests/outside/builders.py --rows FOLDER     writes the files of a few rows into the folder, and prints the rows: what they say is worked out here, but
+                                                for the RTL that the offers begin with
 
-orders: three nodes with three builders: one has its optimisers alone, one examples/optimisers/tidy.py, one the offers that bench/bundles.py
+orders: three nodes with three builders: one has its optimisers alone, one examples/optimisers/tidy.py, one the offers that tests/outside/bundles.py
 makes by docs/FORMATS and docs/PASSES alone and that improve nothing. Of each example and of drawn programs, in each of the six orders, the
 nodes agree; what they link does what `interpret` does; the bundle and the program verify, and so on a second build in that folder, which links
 the same.
@@ -27,7 +27,7 @@ import tempfile
 import bundles
 from tidied import TIDY
 
-ROOT = os.path.dirname(os.path.dirname(os.path.abspath(__file__)))
+ROOT = os.path.dirname(os.path.dirname(os.path.dirname(os.path.realpath(__file__))))
 BOUND = ["--limit", "9000000000000000000"]
 BUILDERS = ("own", "tidy", "plain")
 DRAWN = 20

@@ -2,10 +2,10 @@
 """The rows of hostile use and of failing disks over all farms of the rows, and those of hostile use over the examples, where the gate tries
 a choice of them: also all sixteen generators of crashes behind each failing call of a disk, of which the gate tries four.
 
-    bench/sweeps.py                    all of them
-    bench/sweeps.py stopped unread     these
-    bench/sweeps.py --rows PATH        this program `worked_rows`
-    bench/sweeps.py --jobs 2           so many rows at once (1)
+    tests/outside/sweeps.py                    all of them
+    tests/outside/sweeps.py stopped unread     these
+    tests/outside/sweeps.py --rows PATH        this program `worked_rows`
+    tests/outside/sweeps.py --jobs 2           so many rows at once (1)
 
 The program is the one that the gate builds; each row runs by itself, in a folder with a data file of just this row, so none has the time of
 a program of the gate. A row says what it answers (crates/worked_hostile/src/lib.rt, crates/worked_farm/src/lib.rt). It prints each row with
@@ -18,7 +18,7 @@ import sys
 import tempfile
 import time
 
-ROOT = os.path.dirname(os.path.dirname(os.path.realpath(__file__)))
+ROOT = os.path.dirname(os.path.dirname(os.path.dirname(os.path.realpath(__file__))))
 EXAMPLES = os.path.join(ROOT, "examples")
 DATA = os.path.join(ROOT, "crates", "worked_rows", "data")
 OTHER = "4 journal 404 OtherSource node 0"

@@ -2,10 +2,10 @@
 """Draws LTL functions at random, settles each, and reads both codes by a reading of its own: what `cfarm settle` prints
 has to be a layout of the function that was given.
 
-    bench/settled.py               200 functions of up to 40 nodes, from a fixed seed
-    bench/settled.py --count 1000  as many as are asked for
-    bench/settled.py --busy 100    settles one function of 40 nodes so many times while every processor is busy: each run
-                                   has to end with `agreed 3`, and how many layouts were agreed on is told
+    tests/outside/settled.py               200 functions of up to 40 nodes, from a fixed seed
+    tests/outside/settled.py --count 1000  as many as are asked for
+    tests/outside/settled.py --busy 100    settles one function of 40 nodes so many times while every processor is busy: each run
+                                           has to end with `agreed 3`, and how many layouts were agreed on is told
 
 A layout lists nodes, the entry first, none twice, with all successors of each that is listed; the code is for each of them
 its label, its first moves, its instruction (none for one that does nothing), its last moves, and a jump to its successor,
@@ -19,7 +19,7 @@ import subprocess
 import sys
 import tempfile
 
-ROOT = os.path.dirname(os.path.dirname(os.path.abspath(__file__)))
+ROOT = os.path.dirname(os.path.dirname(os.path.dirname(os.path.realpath(__file__))))
 ONE_ARGUMENT_OPERATORS, OPERATORS = range(1, 5), range(1, 28)
 NONZERO, CONDITIONS = 0, range(7)
 

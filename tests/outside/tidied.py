@@ -1,11 +1,11 @@
 #!/usr/bin/env python3
 """Tries the optimiser from outside, examples/optimisers/tidy.py, on the examples and on C texts given by name.
 
-    bench/tidied.py                 the examples
-    bench/tidied.py TEXT..          these texts
-    bench/tidied.py --program PATH  this program
-    bench/tidied.py --speed         also the three programs of bench/compiled.py: instructions that `exec` takes, by callgrind, beside those
-                                    of `build --optimise speed` and `drawn`, the best and the median of seeds 1 to 12
+    tests/outside/tidied.py                 the examples
+    tests/outside/tidied.py TEXT..          these texts
+    tests/outside/tidied.py --program PATH  this program
+    tests/outside/tidied.py --speed         also the three programs of bench/compiled.py: instructions that `exec` takes, by callgrind, beside those
+                                            of `build --optimise speed` and `drawn`, the best and the median of seeds 1 to 12
 
 Of each text: every offer is taken by `judge`; the program of the offers and their bundle, put together here by docs/FORMATS alone, is taken
 by `verify`; and `exec` prints and ends as `interpret` does. Its status is 1 where something was otherwise."""
@@ -20,7 +20,7 @@ import subprocess
 import sys
 import tempfile
 
-ROOT = os.path.dirname(os.path.dirname(os.path.abspath(__file__)))
+ROOT = os.path.dirname(os.path.dirname(os.path.dirname(os.path.realpath(__file__))))
 BOUND = ["--limit", "9000000000000000000"]
 
 
@@ -127,6 +127,7 @@ def main():
             tried.text(text)
         print(f"{len(texts)} texts, {tried.wrong} wrong", flush=True)
         if given.speed:
+            sys.path.append(os.path.join(ROOT, "bench"))
             import compiled
             for name in ("fib", "sieve", "collatz"):
                 tried.speed(name, compiled.PRINTING + compiled.PROGRAMS[name][0])

@@ -1,4 +1,4 @@
-"""Calls that fail, one at a time, in a program that is run: bench/shim.c, which is loaded before the C library."""
+"""Calls that fail, one at a time, in a program that is run: tests/outside/shim.c, which is loaded before the C library."""
 import os
 import struct
 import subprocess

@@ -2,11 +2,11 @@
 """A second maker of linked programs and their bundles, in plain Python, which knows docs/FORMATS and docs/PASSES and nothing of the
 product; and what `verify`, `emit` and `judge` have to say of what it makes.
 
-    bench/bundles.py --program PATH                 all of it, of this program
-    bench/bundles.py --program PATH --only changes  one part of it: examples, drawn, changes, exchanged, lengths, judged
-    bench/bundles.py rows FOLDER                    writes the files of a few rows into the folder, and prints the rows: command lines, what
-                                                    they print and their status, by the rules alone
-    bench/bundles.py make TEXT RTL PROGRAM BUNDLE   of a C text and what `emit TEXT --of rtl` wrote: a linked program and its bundle
+    tests/outside/bundles.py --program PATH                 all of it, of this program
+    tests/outside/bundles.py --program PATH --only changes  one part of it: examples, drawn, changes, exchanged, lengths, judged
+    tests/outside/bundles.py rows FOLDER                    writes the files of a few rows into the folder, and prints the rows: command lines, what
+                                                            they print and their status, by the rules alone
+    tests/outside/bundles.py make TEXT RTL PROGRAM BUNDLE   of a C text and what `emit TEXT --of rtl` wrote: a linked program and its bundle
 
 Each register lies in a slot, nothing is improved, and blocks come in the order of their nodes: what is made is accepted only if these
 rules are read here as the product reads them, and it has to be what `emit` writes where no seed is given.
@@ -29,7 +29,7 @@ import subprocess
 import sys
 import tempfile
 
-ROOT = os.path.dirname(os.path.dirname(os.path.abspath(__file__)))
+ROOT = os.path.dirname(os.path.dirname(os.path.dirname(os.path.realpath(__file__))))
 FORMS = {101: "Short", 102: "BadTag", 103: "NotCanonical", 104: "TooLarge"}
 ARGUMENTS = {**{o: 1 for o in range(1, 5)}, **{o: 2 for o in range(5, 28)}}
 TESTED = {0: 1, **{c: 2 for c in range(1, 7)}}

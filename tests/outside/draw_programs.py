@@ -1,8 +1,8 @@
 #!/usr/bin/env python3
 """Draws well-formed C programs that never go wrong, and writes them with what two C compilers say of them.
 
-    bench/draw_programs.py COUNT SEED                 prints so many rows of crates/worked_rows/data/drawn.txt
-    bench/draw_programs.py --statements COUNT SEED    the same, with `do`, compound assignment, `++` and `--`
+    tests/outside/draw_programs.py COUNT SEED                 prints so many rows of crates/worked_rows/data/drawn.txt
+    tests/outside/draw_programs.py --statements COUNT SEED    the same, with `do`, compound assignment, `++` and `--`
 
 A row: the bound, the program, its output and its closing line, with tabs between. A program has globals, arrays,
 functions that call those before them, loops with few turns, `break`, `continue`, `if` with and without `else`, all
@@ -260,6 +260,8 @@ def ran(command, binary):
 
 def main():
     given = sys.argv[1:]
+    if not given[-2:] or not all(it.isdigit() for it in given[-2:]):
+        sys.exit(__doc__)
     drawn = DrawnWithChanges if given[0] == "--statements" else Drawn
     count, seed = map(int, given[-2:])
     words = random.Random(seed)
