@@ -1,5 +1,5 @@
 #!/usr/bin/env python3
-"""Tries the optimiser from outside, examples/optimisers/tidy.py, on the examples and on C texts given by name.
+"""Tries the optimisers from outside, examples/optimisers/tidy.py and fold.c, on the examples and on C texts given by name.
 
     tests/outside/tidied.py                 the examples
     tests/outside/tidied.py TEXT..          these texts
@@ -7,8 +7,8 @@
     tests/outside/tidied.py --speed         also the three programs of bench/compiled.py: instructions that `exec` takes, by callgrind, beside those
                                             of `build --optimise speed` and `drawn`, the best and the median of seeds 1 to 12
 
-Of each text: every offer is taken by `judge`; the program of the offers and their bundle, put together here by docs/FORMATS alone, is taken
-by `verify`; and `exec` prints and ends as `interpret` does. Its status is 1 where something was otherwise."""
+Of each text: every offer of both is taken by `judge`; the program of tidy.py's offers and their bundle, put together here by docs/FORMATS
+alone, is taken by `verify`; and `exec` prints and ends as `interpret` does. Its status is 1 where something was otherwise."""
 import argparse
 import hashlib
 import importlib.util
@@ -37,6 +37,8 @@ TIDY = tidy()
 class Tried:
     def __init__(self, program, folder):
         self.program, self.folder, self.wrong = program, folder, 0
+        self.fold = os.path.join(folder, "fold")
+        subprocess.run(["cc", "-O2", "-o", self.fold, os.path.join(ROOT, "examples", "optimisers", "fold.c")], check=True)
 
     def run(self, *words):
         done = subprocess.run([self.program, *words], stdin=subprocess.DEVNULL, capture_output=True, check=False)
@@ -74,10 +76,21 @@ class Tried:
             linked += bytes([len(name)]) + name.encode() + linear
         return self.put("linked", linked), self.put("bundle", bundle)
 
+    def folded(self, text):
+        """Whether `judge` takes each offer of fold.c."""
+        rtl = self.put("rtl", self.run("emit", text, "--of", "rtl")[1])
+        with tempfile.TemporaryDirectory(dir=self.folder) as offers:
+            done = subprocess.run([self.fold, rtl, offers], capture_output=True, text=True, check=False)
+            self.expect(f"{text}: fold: {done.stderr}", done.returncode == 0)
+            for name in sorted(os.listdir(offers)):
+                answer = self.run("judge", text, "--function", name.removesuffix(".pass1"), "--offer", os.path.join(offers, name))
+                self.expect(f"{text}: fold, {name}: {answer}", answer[:2] == (0, b"accepted pass 1\n"))
+
     def text(self, text):
         made = self.made(text)
         if made is None:
             return
+        self.folded(text)
         answer = self.run("verify", text, "--program", made[0], "--bundle", made[1])
         self.expect(f"{text}: verify: {answer}", answer[0] == 0)
         ran, meant = self.run("exec", made[0], *BOUND), self.run("interpret", text, "--depth", "4294967295")
