@@ -14,5 +14,4 @@ mod translating;
 
 pub use forms::Forms;
 pub use preparing::prepared;
-pub use programs::translated;
 pub use reading::read_forms;

@@ -98,7 +98,7 @@ fn made_whole<R: Threads + Sync>(
 
 /// The RTL program of a checked program; none where memory was refused, or where a function needs too many nodes. The time is linear in
 /// the program, and all processors share the functions.
-pub fn translated<R: Threads + Sync>(
+pub(crate) fn translated<R: Threads + Sync>(
     rt: &R,
     alloc: Global,
     program: &CProgram,

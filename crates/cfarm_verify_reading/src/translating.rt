@@ -1,6 +1,6 @@
 //! The RTL program of a checked program.
 
-ghost use Rattle.std.specs.Prelude.{◌≡◌, ◌<◌, length, map, IfOk, IfErr};
+ghost use Rattle.std.specs.Prelude.{◌≡◌, IfOk, IfErr};
 ghost use Rattle.lang_base.specs.Keeps.{Keeps};
 ghost use Rattle.lang.specs.Form.{IsProgram};
 ghost use Rattle.c_program.specs.Meaning.{crun};
@@ -10,56 +10,18 @@ ghost use Rattle.cminor_program_ranges.specs.Names.{HaveNames};
 ghost use Rattle.rtl_language.specs.Function.{IsFunction};
 ghost use Rattle.rtl_language.specs.Meaning as rtl;
 ghost use Rattle.rtlgen_definition.specs.Gen.{gen};
-ghost use Rattle.farm_nodes_source.specs.Refused.{IsNamed, IsUntranslated};
+ghost use Rattle.farm_nodes_source.specs.Refused.{IsUntranslated};
 
 use crate::programs::translated;
 use c_checker_rules::CProgram;
-use cminor::lower;
-use cminor_program_ranges::same_head_fits;
-use farm_nodes_source::{SourceFault, name_of};
-use lang_base::{NoMemory, Program, keeps_composes};
-use rtl_language::{Function, Rtl};
-use rtlgen::{GenError, translate};
+use farm_nodes_source::SourceFault;
+use lang_base::Program;
+use rtl_language::Function;
 use std::alloc::Global;
 use std::thread::Threads;
 
-/// The fault of the function of this number, with its name.
-fn too_many_nodes(alloc: Global, program: &CProgram, function: usize) -> SourceFault
-    requires number { function < length program.now.functions }
-    requires names { HaveNames (program_tree program.now) }
-    ensures { IsNamed (map (λ f. f.name) program.now.functions) function result }
-{
-    match name_of(alloc, program, function) {
-        Ok(name) => SourceFault::TooManyNodes(name),
-        Err(NoMemory) => SourceFault::NoMemory,
-    }
-}
-
-/// The RTL program of a program whose functions have C names, one function behind the other, or the first function that needs too many
-/// nodes.
-fn made_in_turn(alloc: Global, program: &CProgram) -> Result<Program<Function>, SourceFault>
-    requires { HaveNames (program_tree program.now) }
-    ensures same { IfOk result (λ made. made ≡ gen (low (program_tree program.now))) }
-    ensures keeps { IfOk result (λ made. Keeps (crun (program_tree program.now)) (rtl.run made)) }
-    ensures fits { IfOk result (IsProgram IsFunction) }
-    ensures refused { IfErr result (IsUntranslated (program_tree program.now)) }
-{
-    keeps_composes();
-    let lowered = match lower(alloc, program) {
-        Ok(lowered) => lowered,
-        Err(NoMemory) => return Err(SourceFault::NoMemory),
-    };
-    match translate(alloc, &lowered) {
-        Ok(made) => {
-            same_head_fits::<Rtl>(program, &made);
-            Ok(made)
-        }
-        Err(GenError::TooManyNodes(function)) => Err(too_many_nodes(alloc, program, function)),
-        Err(GenError::NoMemory) => Err(SourceFault::NoMemory),
-    }
-}
-
-/// The same, the functions side by side. Where one cannot be made, all are made again in turn, which tells the first fault.
+/// The RTL program of a checked program whose functions have C names, the functions side by side. Where one cannot be made, all are made
+/// again in turn, which tells the first fault.
 pub(crate) fn made_beside<R: Threads + Sync>(
     rt: &R,
     alloc: Global,
@@ -73,6 +35,6 @@ pub(crate) fn made_beside<R: Threads + Sync>(
 {
     match translated(rt, alloc, program) {
         Some(made) => Ok(made),
-        None => made_in_turn(alloc, program),
+        None => farm_nodes_source::translated(alloc, program),
     }
 }

@@ -12,3 +12,4 @@ pub use fault::SourceFault;
 pub use naming::{name_of, text_of};
 pub use preparing::{begin, prepare};
 pub use source::{Begun, Source};
+pub use translating::translated;

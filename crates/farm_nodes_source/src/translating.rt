@@ -24,10 +24,7 @@ use rtlgen::{GenError, translate};
 use std::alloc::Global;
 
 /// The RTL program of a checked program whose functions have C names, or the first function that needs too many nodes.
-pub(crate) fn translated(
-    alloc: Global,
-    program: &CProgram,
-) -> Result<Program<Function>, SourceFault>
+pub fn translated(alloc: Global, program: &CProgram) -> Result<Program<Function>, SourceFault>
     requires { HaveNames (program_tree program.now) }
     ensures same { IfOk result (λ made. made ≡ gen (low (program_tree program.now))) }
     ensures keeps { IfOk result (λ made. Keeps (crun (program_tree program.now)) (rtl.run made)) }
