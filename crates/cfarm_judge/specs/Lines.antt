@@ -3,9 +3,7 @@ use Rattle.std.specs.Prelude.{ℕ, zero, suc, List, ◌++◌, codes}
 use Rattle.std.specs.Fmt.{decimal}
 use Rattle.lang_base.specs.declared.fault.Fault.{Fault}
 use Rattle.lang_base.specs.declared.fault.Fault.TheVariants.{Shape, Node}
-use Rattle.lang_base.specs.declared.errors.FormError.{FormError}
-use Rattle.lang_base.specs.declared.errors.FormError.TheVariants as form
-use Rattle.cfarm_output.specs.Lines.{form_line}
+use Rattle.cfarm_output.specs.Lines.{form_line_in, form_status_of}
 use Rattle.farm_nodes_source.specs.declared.fault.SourceFault.{SourceFault}
 use Rattle.farm_nodes_source.specs.Told as source
 use Rattle.bundle_offers.specs.Standing as standing
@@ -16,13 +14,6 @@ use Rattle.cfarm_judge.specs.declared.error.JudgeError.TheVariants as judge
 -- the pass that accepts the offer
 abbrev pub accepted_line : PassNumber → List ℕ
 accepted_line pass = codes "accepted pass " ++ (decimal (standing.number_of pass) ++ codes "\n")
-
-abbrev pub form_line_in : FormError → List ℕ → List ℕ
-form_line_in form.NoMemory path = codes "memory"
-form_line_in form.Short path = form_line form.Short ++ (codes " in " ++ path)
-form_line_in form.BadTag path = form_line form.BadTag ++ (codes " in " ++ path)
-form_line_in form.NotCanonical path = form_line form.NotCanonical ++ (codes " in " ++ path)
-form_line_in form.TooLarge path = form_line form.TooLarge ++ (codes " in " ++ path)
 
 abbrev pub refused_line : PassNumber → Fault → List ℕ
 refused_line pass Shape = codes "refused 301 Refused pass " ++ (decimal (standing.number_of pass) ++ codes " shape")
@@ -47,13 +38,6 @@ unless_memory (suc (suc _)) status = status
 
 abbrev pub source_status_of : SourceFault → ℕ
 source_status_of fault = unless_memory (source.number_of fault) 1
-
-abbrev pub form_status_of : FormError → ℕ
-form_status_of form.NoMemory = 7
-form_status_of form.Short = 1
-form_status_of form.BadTag = 1
-form_status_of form.NotCanonical = 1
-form_status_of form.TooLarge = 1
 
 abbrev pub status_of : JudgeError → ℕ
 status_of judge.NoMemory = 7

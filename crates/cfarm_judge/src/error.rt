@@ -1,10 +1,11 @@
 //! Why an offer is not accepted.
 
 ghost use Rattle.std.specs.Prelude.{◌≡◌};
-ghost use Rattle.cfarm_judge.specs.Lines.{form_status_of, source_status_of, status_of};
+ghost use Rattle.cfarm_judge.specs.Lines.{source_status_of, status_of};
 ghost use Rattle.cfarm_judge.specs.Passing.{told_of};
 
 use bundle_offers::{OfferFault, PassNumber};
+use cfarm_output::form_status;
 use farm_nodes_source::SourceFault;
 use lang_base::{Fault, FormError};
 
@@ -49,15 +50,6 @@ fn source_status(fault: &SourceFault) -> u8
     match fault.number() {
         1 => 7,
         _ => 1,
-    }
-}
-
-fn form_status(fault: FormError) -> u8
-    ensures { result ≡ form_status_of fault }
-{
-    match fault {
-        FormError::NoMemory => 7,
-        FormError::Short | FormError::BadTag | FormError::NotCanonical | FormError::TooLarge => 1,
     }
 }
 

@@ -4,31 +4,9 @@ ghost use Rattle.std.specs.Prelude.{◌≡◌};
 
 use crate::error::JudgeError;
 use bundle_offers::PassNumber;
-use cfarm_output::FormLine;
-use lang_base::{Fault, FormError};
+use cfarm_output::FormLineIn;
+use lang_base::Fault;
 use std::fmt;
-
-/// A fault of bytes, with the path of their file.
-#[derive(Drop)]
-struct FormIn<'a>(FormError, &'a str);
-
-impl<'a> fmt::Display for FormIn<'a> {
-    ghost use Rattle.std.specs.Prelude.{Some};
-    ghost use Rattle.cfarm_judge.specs.Lines.{form_line_in};
-
-    ghost output = { λ l. Some (form_line_in l.0 l.1.now) };
-
-    fn fmt<W: fmt::Write>(&self, f: &mut fmt::Formatter<W>) -> fmt::Result {
-        let path = self.1;
-        match self.0 {
-            FormError::NoMemory => write!(f, "memory"),
-            fault => {
-                let line = FormLine(fault);
-                write!(f, "{line} in {path}")
-            }
-        }
-    }
-}
 
 /// Why a pass does not accept an offer.
 #[derive(Drop)]
@@ -70,7 +48,7 @@ impl<'a> fmt::Display for JudgeLine<'a> {
             JudgeError::Source(fault) => write!(f, "{fault}"),
             JudgeError::NoFunction => write!(f, "refused 603 Names in {name}"),
             JudgeError::Form(fault) => {
-                let line = FormIn(*fault, path);
+                let line = FormLineIn(*fault, path);
                 write!(f, "{line}")
             }
             JudgeError::Unchained => write!(f, "refused 602 Unchained"),

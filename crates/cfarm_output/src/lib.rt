@@ -8,6 +8,6 @@ mod paced;
 mod printing;
 
 pub use errors::{ErrorLines, ErrorWriter, Unwritten};
-pub use lines::FormLine;
+pub use lines::{FormLine, FormLineIn, form_status};
 pub use paced::Paced;
 pub use printing::{print_all, print_whole};

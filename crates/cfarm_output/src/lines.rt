@@ -1,7 +1,7 @@
 //! How a fault of bytes is told.
 
 ghost use Rattle.std.specs.Prelude.{◌≡◌};
-ghost use Rattle.cfarm_output.specs.Lines.{form_name};
+ghost use Rattle.cfarm_output.specs.Lines.{form_name, form_status_of};
 
 use lang_base::FormError;
 use std::fmt;
@@ -32,5 +32,37 @@ impl fmt::Display for FormLine {
         let number = self.0.number();
         let name = form_name(self.0);
         write!(f, "refused {number} {name}")
+    }
+}
+
+/// The line of a fault of bytes, with the path of their file.
+#[derive(Drop)]
+pub struct FormLineIn<'a>(pub FormError, pub &'a str);
+
+impl<'a> fmt::Display for FormLineIn<'a> {
+    ghost use Rattle.std.specs.Prelude.{Some};
+    ghost use Rattle.cfarm_output.specs.Lines.{form_line_in};
+
+    ghost output = { λ l. Some (form_line_in l.0 l.1.now) };
+
+    fn fmt<W: fmt::Write>(&self, f: &mut fmt::Formatter<W>) -> fmt::Result {
+        let path = self.1;
+        match self.0 {
+            FormError::NoMemory => write!(f, "memory"),
+            fault => {
+                let line = FormLine(fault);
+                write!(f, "{line} in {path}")
+            }
+        }
+    }
+}
+
+/// The exit status where bytes are refused.
+pub fn form_status(fault: FormError) -> u8
+    ensures { result ≡ form_status_of fault }
+{
+    match fault {
+        FormError::NoMemory => 7,
+        FormError::Short | FormError::BadTag | FormError::NotCanonical | FormError::TooLarge => 1,
     }
 }

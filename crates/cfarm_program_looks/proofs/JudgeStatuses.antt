@@ -3,8 +3,9 @@ use Rattle.std.specs.Prelude.{ℕ, zero, suc, ◌≤◌}
 use Rattle.std.proofs.Common.{arith}
 use Rattle.lang_base.specs.declared.errors.FormError.{FormError}
 use Rattle.lang_base.specs.declared.errors.FormError.TheVariants as form
+use Rattle.cfarm_output.specs.Lines.{form_status_of}
 use Rattle.farm_nodes_source.specs.Told as source
-use Rattle.cfarm_judge.specs.Lines.{form_status_of, status_of, unless_memory}
+use Rattle.cfarm_judge.specs.Lines.{status_of, unless_memory}
 use Rattle.cfarm_judge.specs.declared.error.JudgeError.{JudgeError}
 use Rattle.cfarm_judge.specs.declared.error.JudgeError.TheVariants as judge
 

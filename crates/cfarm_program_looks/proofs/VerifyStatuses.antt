@@ -3,10 +3,11 @@ use Rattle.std.specs.Prelude.{ℕ, zero, suc, ◌≤◌}
 use Rattle.std.proofs.Common.{arith}
 use Rattle.lang_base.specs.declared.errors.FormError.{FormError}
 use Rattle.lang_base.specs.declared.errors.FormError.TheVariants as form
+use Rattle.cfarm_output.specs.Lines.{form_status_of}
 use Rattle.farm_nodes_source.specs.Told as source
 use Rattle.cfarm_judge.specs.OfferFault.{OfferFault}
 use Rattle.cfarm_judge.specs.OfferFault.TheVariants as offer
-use Rattle.cfarm_verify.specs.Lines.{fault_status_of, form_status_of, status_of, unless_memory}
+use Rattle.cfarm_verify.specs.Lines.{fault_status_of, status_of, unless_memory}
 use Rattle.cfarm_verify.specs.declared.error.VerifyError.{VerifyError}
 use Rattle.cfarm_verify.specs.declared.error.VerifyError.TheVariants as verify
 

@@ -5,9 +5,7 @@ use Rattle.std.specs.String.{string_bytes}
 use Rattle.hex.specs.Hex.{encode_lower}
 use Rattle.sha2.specs.Sha256.{sha256}
 use Rattle.lang_base.specs.declared.fault.Fault.TheVariants.{Shape, Node}
-use Rattle.lang_base.specs.declared.errors.FormError.{FormError}
-use Rattle.lang_base.specs.declared.errors.FormError.TheVariants as form
-use Rattle.cfarm_output.specs.Lines.{form_line}
+use Rattle.cfarm_output.specs.Lines.{form_line_in, form_status_of}
 use Rattle.farm_nodes_source.specs.declared.fault.SourceFault.{SourceFault}
 use Rattle.farm_nodes_source.specs.Told as source
 use Rattle.bundle_offers.specs.Standing as standing
@@ -23,10 +21,6 @@ line_with functions digits = codes "verified " ++ (decimal functions ++ (codes "
 -- so many functions, and the SHA-256 of the program's bytes
 abbrev pub verified_line : ℕ → List ℕ → List ℕ
 verified_line functions program = line_with functions (encode_lower (sha256 program))
-
-abbrev pub form_line_in : FormError → List ℕ → List ℕ
-form_line_in form.NoMemory path = codes "memory"
-form_line_in fault path = form_line fault ++ (codes " in " ++ path)
 
 abbrev pub fault_line_in : OfferFault → List ℕ → List ℕ
 fault_line_in offer.NoMemory name = codes "memory"
@@ -59,10 +53,6 @@ unless_memory (suc (suc _)) status = status
 
 abbrev pub source_status_of : SourceFault → ℕ
 source_status_of fault = unless_memory (source.number_of fault) 1
-
-abbrev pub form_status_of : FormError → ℕ
-form_status_of form.NoMemory = 7
-form_status_of fault = 1
 
 abbrev pub fault_status_of : OfferFault → ℕ
 fault_status_of offer.NoMemory = 7

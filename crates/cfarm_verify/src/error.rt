@@ -1,9 +1,10 @@
 //! Why a program is not verified.
 
 ghost use Rattle.std.specs.Prelude.{◌≡◌};
-ghost use Rattle.cfarm_verify.specs.Lines.{fault_status_of, form_status_of, source_status_of, status_of};
+ghost use Rattle.cfarm_verify.specs.Lines.{fault_status_of, source_status_of, status_of};
 
 use bundle_offers::OfferFault;
+use cfarm_output::form_status;
 use farm_nodes_source::SourceFault;
 use lang_base::FormError;
 
@@ -61,15 +62,6 @@ fn source_status(fault: &SourceFault) -> u8
     match fault.number() {
         1 => 7,
         _ => 1,
-    }
-}
-
-fn form_status(fault: FormError) -> u8
-    ensures { result ≡ form_status_of fault }
-{
-    match fault {
-        FormError::NoMemory => 7,
-        FormError::Short | FormError::BadTag | FormError::NotCanonical | FormError::TooLarge => 1,
     }
 }
 

@@ -4,31 +4,9 @@ ghost use Rattle.std.specs.Prelude.{◌≡◌};
 
 use crate::error::VerifyError;
 use bundle_offers::OfferFault;
-use cfarm_output::FormLine;
-use lang_base::{Fault, FormError};
+use cfarm_output::FormLineIn;
+use lang_base::Fault;
 use std::fmt;
-
-/// A fault of bytes, with the path of their file.
-#[derive(Drop)]
-struct FormIn<'a>(FormError, &'a str);
-
-impl<'a> fmt::Display for FormIn<'a> {
-    ghost use Rattle.std.specs.Prelude.{Some};
-    ghost use Rattle.cfarm_verify.specs.Lines.{form_line_in};
-
-    ghost output = { λ l. Some (form_line_in l.0 l.1.now) };
-
-    fn fmt<W: fmt::Write>(&self, f: &mut fmt::Formatter<W>) -> fmt::Result {
-        let path = self.1;
-        match self.0 {
-            FormError::NoMemory => write!(f, "memory"),
-            fault => {
-                let line = FormLine(fault);
-                write!(f, "{line} in {path}")
-            }
-        }
-    }
-}
 
 /// An offer's fault, with the name of its function.
 #[derive(Drop)]
@@ -80,11 +58,11 @@ impl<'a> fmt::Display for VerifyLine<'a> {
             VerifyError::NoMemory => write!(f, "memory"),
             VerifyError::Source(fault) => write!(f, "{fault}"),
             VerifyError::Program(fault) => {
-                let line = FormIn(*fault, program);
+                let line = FormLineIn(*fault, program);
                 write!(f, "{line}")
             }
             VerifyError::Bundle(fault) => {
-                let line = FormIn(*fault, bundle);
+                let line = FormLineIn(*fault, bundle);
                 write!(f, "{line}")
             }
             VerifyError::OtherSource => write!(f, "refused 404 OtherSource in {bundle}"),
