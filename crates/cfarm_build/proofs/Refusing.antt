@@ -26,7 +26,8 @@ use Rattle.cfarm_files.specs.Placing.{Placed, GivesNoMore, Keeps, Makes}
 use Rattle.cfarm_files.specs.Locking.{lock_path}
 use Rattle.cfarm_options.specs.Sizes.{count_of}
 use Rattle.cfarm_options.specs.declared.options.BuildOptions.{BuildOptions}
-use Rattle.cfarm_build.specs.Compiled.{quorums_of, HasNotCompiled, IsBuiltIn, IsRefusedIn, IsUnbuiltIn, IsUncompiled}
+use Rattle.cfarm_options.specs.Quorums.{quorums_of}
+use Rattle.cfarm_build.specs.Compiled.{HasNotCompiled, IsBuiltIn, IsRefusedIn, IsUnbuiltIn, IsUncompiled}
 use Rattle.cfarm_build_folder.specs.Disks.{AreGiven, HasNoDisk, IsOwn, IsRefusedAt}
 use Rattle.cfarm_build.specs.Left.{Leaves}
 use Rattle.cfarm_build_folder.proofs.Given.{given_before, refused_before}

@@ -11,8 +11,8 @@ use Rattle.cfarm_build_linking.specs.Carried.{bundle_of}
 use Rattle.cfarm_build.specs.Refused.{IsUnbuilt}
 use Rattle.cfarm_build_folder.specs.BuildError.TheVariants.{NoMemory, NoThread, Source as TextFault, Disks, Failed, Undecided, Unlinked, Names}
 use Rattle.cfarm_build_folder.specs.BuildError.{BuildError}
-use Rattle.paxos_core_world.specs.Quorum.{sizes, Sizes}
-use Rattle.cfarm_options.specs.Sizes.{count_of, sizes_of}
+use Rattle.cfarm_options.specs.Quorums.{quorums_of}
+use Rattle.cfarm_options.specs.Sizes.{count_of}
 use Rattle.cfarm_files.specs.Locking.{lock_path}
 use Rattle.cfarm_files.specs.Placing.{Placed, Makes}
 use Rattle.cfarm_build_folder.specs.Disks.{AreGiven, HasNoDisk, IsOwn, IsRefusedAt}
@@ -21,10 +21,6 @@ use Rattle.cfarm_build_folder.specs.declared.error.BuildingError.TheVariants.{Bu
 use Rattle.cfarm_options.specs.declared.options.BuildOptions.{BuildOptions}
 use Rattle.cfarm_build.specs.Carried.{CarriesProof}
 use Rattle.cfarm_build.specs.Left.{Leaves}
-
--- the sizes of quorums that are asked for
-abbrev pub quorums_of : BuildOptions → Sizes
-quorums_of options = sizes (sizes_of options).nodes (sizes_of options).promise (sizes_of options).accept
 
 -- the text was made ready, and so it is of what it was made
 pub record IsBehind (text : List ℕ) (Is : Source → Type 0) : Type 0 where

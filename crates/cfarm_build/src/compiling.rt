@@ -2,7 +2,7 @@
 
 ghost use Rattle.std.specs.Prelude.{◌≡◌, IfOk, IfErr, is_some, length};
 ghost use Rattle.cfarm_files.specs.Locking.{CoversFolder};
-ghost use Rattle.cfarm_build.specs.Compiled.{quorums_of};
+ghost use Rattle.cfarm_options.specs.Quorums.{quorums_of};
 ghost use Rattle.cfarm_build.specs.Farmed.{FarmCompiles, FarmCompilesNot};
 
 use crate::building::build_bundled;

@@ -3,13 +3,11 @@
 //! has learned; the program's bytes are put, and a report is written.
 #![tactic(auto)]
 
-mod asking;
 mod building;
 mod compiling;
 mod farm;
 mod text_building;
 
-pub use asking::quorums_of;
 pub use building::{build, build_bundled};
 pub use cfarm_build_folder::{BuildError, of_build};
 pub use farm::Farm;

@@ -3,7 +3,7 @@
 ghost use Rattle.std.specs.Prelude.{◌≡◌, ◌++◌, ◌∷◌, [], OnOk, IfOk, IfErr, is_some};
 ghost use Rattle.std.specs.String.{string_bytes};
 ghost use Rattle.cfarm_files.specs.Locking.{CoversFolder};
-ghost use Rattle.cfarm_build.specs.Compiled.{quorums_of};
+ghost use Rattle.cfarm_options.specs.Quorums.{quorums_of};
 ghost use Rattle.cfarm_build.specs.Done.{HasPut, HasPutNot};
 ghost use Rattle.cfarm_build.specs.Farmed.{FarmBuilds, FarmBuildsNot};
 

@@ -1,4 +1,3 @@
-pub mod Asked
 pub mod Looking
 pub mod Reading
 pub mod Saying

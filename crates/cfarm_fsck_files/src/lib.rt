@@ -2,10 +2,8 @@
 //! is told. No file is put, and none is made but that of the lock.
 #![tactic(auto)]
 
-mod asking;
 mod looking;
 mod reading;
 mod unread;
 
-pub use asking::asked_quorums;
 pub use looking::look_through;

@@ -1,4 +1,5 @@
 pub mod Names
 pub mod Paths
+pub mod Quorums
 pub mod Sizes
 pub mod Lines

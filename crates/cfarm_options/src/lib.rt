@@ -1,4 +1,4 @@
-//! What a command is asked for, in types that the words of the command line and the commands share: the options of a build and the files in
+//! What a command is asked for, in types that the words of the command line and the commands share: the options of a build and its quorums, the files in
 //! its folder, the forms that `emit` writes, and where a user sees how far a build is and what it did not use.
 #![tactic(auto)]
 

@@ -1,8 +1,11 @@
 //! What a build is asked for.
 
-ghost use Rattle.std.specs.Prelude.{◌≡◌};
+ghost use Rattle.std.specs.Prelude.{◌≡◌, SomeIff};
+ghost use Rattle.paxos_core_world.specs.Quorum.{AreQuorums};
+ghost use Rattle.cfarm_options.specs.Quorums.{asked_quorums, quorums_of};
 ghost use Rattle.cfarm_options.specs.Sizes.{AreOfNodes, count_of, size_of, sizes_of};
 
+use paxos_core_world::quorum::Quorums;
 use std::fmt;
 
 /// How many nodes a farm has.
@@ -40,6 +43,15 @@ pub struct AskedSizes {
     pub nodes: u8,
     pub promise: u8,
     pub accept: u8,
+}
+
+impl AskedSizes {
+    /// The quorums of these sizes. None where a promise quorum and an accept quorum of them need not meet.
+    pub fn quorums(self) -> Option<Quorums>
+        ensures { SomeIff result (AreQuorums (asked_quorums self)) (asked_quorums self) }
+    {
+        Quorums::of(self.nodes, self.promise, self.accept)
+    }
 }
 
 impl fmt::Display for AskedSizes {
@@ -106,5 +118,12 @@ impl BuildOptions<'_> {
             promise: size_of(nodes, self.promise),
             accept: size_of(nodes, self.accept),
         }
+    }
+
+    /// The quorums that are asked for. None where a promise quorum and an accept quorum of these sizes need not meet.
+    pub fn quorums(self) -> Option<Quorums>
+        ensures { SomeIff result (AreQuorums (quorums_of self.entry)) (quorums_of self.entry) }
+    {
+        self.sizes().quorums()
     }
 }

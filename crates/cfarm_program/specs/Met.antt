@@ -1,8 +1,7 @@
 -- Whether the quorums meet that a task asks for. A build and `fsck` alone ask for any.
 use Rattle.std.specs.Prelude.{◌≡◌}
-use Rattle.cfarm_build.specs.Compiled.{quorums_of}
 use Rattle.paxos_core_world.specs.Quorum.{AreQuorums}
-use Rattle.cfarm_fsck_files.specs.Asked.{asked_quorums}
+use Rattle.cfarm_options.specs.Quorums.{asked_quorums, quorums_of}
 use Rattle.cfarm_options.specs.Sizes.{sizes_of}
 use Rattle.cfarm_options.specs.declared.options.AskedSizes.{AskedSizes}
 use Rattle.cfarm_command_line_others.specs.declared.task.Task.{Task}

@@ -9,6 +9,7 @@ use Rattle.cfarm_files.specs.declared.fault.FileFault.{FileFault}
 use Rattle.cfarm_files.specs.declared.files.Files as filing
 use Rattle.cfarm_build.specs.Changed.{Changed}
 use Rattle.cfarm_build.specs.declared.farm.Farm as farms
+use Rattle.cfarm_options.specs.Quorums.{asked_quorums}
 use Rattle.cfarm_options.specs.Sizes.{sizes_line}
 use Rattle.cfarm_options.specs.declared.options.AskedSizes.{AskedSizes}
 use Rattle.cfarm_options.specs.declared.options.BuildOptions.{BuildOptions}
@@ -23,7 +24,6 @@ use Rattle.cfarm_program_looks.specs.Listing.{Listed}
 use Rattle.cfarm_program_looks.specs.Verifying.{Verified}
 use Rattle.cfarm_program_looks.specs.Emitting.{Formed}
 use Rattle.cfarm_program_looks.specs.Judging.{Judged}
-use Rattle.cfarm_fsck_files.specs.Asked.{asked_quorums}
 use Rattle.cfarm_fsck_files.specs.Saying.{LookedOver, Tells}
 use Rattle.cfarm_program.specs.Met.{AreMet, IsUnmet}
 use Rattle.cfarm_program_runs.specs.Explained.{is_explained}

@@ -1,17 +1,16 @@
 //! The commands, with what each tells.
 
 ghost use Rattle.std.specs.Prelude.{◌≡◌, ◌≤◌, false, true, IfSome, IsNone, Some, option_copied};
-ghost use Rattle.cfarm_build.specs.Compiled.{quorums_of};
 ghost use Rattle.paxos_core_world.specs.Quorum.{AreQuorums};
-ghost use Rattle.cfarm_fsck_files.specs.Asked.{asked_quorums};
+ghost use Rattle.cfarm_options.specs.Quorums.{asked_quorums, quorums_of};
 ghost use Rattle.cfarm_options.specs.Names.{is_given_taken, is_taken};
 ghost use Rattle.cfarm_program.specs.Met.{AreMet};
 ghost use Rattle.cfarm_program.specs.Performed.{Built, BuiltApart, Does, Looks};
 
-use cfarm_build::{Farm, build_text, of_build, quorums_of};
+use cfarm_build::{Farm, build_text, of_build};
 use cfarm_command_line_others::{FsckOptions, Task};
 use cfarm_files::{FileFault, Files};
-use cfarm_fsck_files::{asked_quorums, look_through};
+use cfarm_fsck_files::look_through;
 use cfarm_options::{BuildOptions, Meter, is_taken};
 use cfarm_output::{ErrorLines, Paced};
 use cfarm_program_looks::{emit_form, judge_offer, list_records, show_text, verify_files};
@@ -49,7 +48,7 @@ fn build_apart<
     ensures does { BuiltApart ⟦<F as Farm<H>>⟧ W.Write E.ErrorLines is_seen options.entry text.now result files out err }
     ensures table { result ≤ 7 }
 {
-    let Some(quorums) = quorums_of(options) else {
+    let Some(quorums) = options.quorums() else {
         unreachable!();
     };
     match build_text(rt, alloc, hall, text, options, quorums, files, meter, out) {
@@ -120,7 +119,7 @@ fn look<H: Naming, R: Threads + Wait + Sync, F: Files, W: Write, E: ErrorLines>(
     ensures does { Looks F.Files W.Write E.ErrorLines options.entry text.now result files out err }
     ensures table { result ≤ 7 }
 {
-    let Some(quorums) = asked_quorums(options.sizes) else {
+    let Some(quorums) = options.sizes.quorums() else {
         unreachable!();
     };
     look_through(

@@ -5,10 +5,9 @@ ghost use Rattle.cfarm_program.specs.Met.{AreMet, IsUnmet};
 ghost use Rattle.cfarm_program.specs.Performed.{Reads, RunsTask};
 
 use crate::performing::perform;
-use cfarm_build::{Farm, quorums_of};
+use cfarm_build::Farm;
 use cfarm_command_line_others::Task;
 use cfarm_files::Files;
-use cfarm_fsck_files::asked_quorums;
 use cfarm_options::{AskedSizes, Meter};
 use cfarm_output::{ErrorLines, Paced};
 use cfarm_program_status::{tell, tell_unread};
@@ -27,11 +26,11 @@ fn unmet(task: Task<'_>) -> Option<AskedSizes>
     ensures none { IsNone result → AreMet task.entry }
 {
     match task {
-        Task::Build(options) => match quorums_of(options) {
+        Task::Build(options) => match options.quorums() {
             Some(_quorums) => None,
             None => Some(options.sizes()),
         },
-        Task::Fsck(options) => match asked_quorums(options.sizes) {
+        Task::Fsck(options) => match options.sizes.quorums() {
             Some(_quorums) => None,
             None => Some(options.sizes),
         },
