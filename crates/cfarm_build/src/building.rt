@@ -1,4 +1,4 @@
-ghost use Rattle.std.specs.Prelude.{◌≡◌, ◌≤◌, false, is_some, length, IfOk, IfErr};
+ghost use Rattle.std.specs.Prelude.{◌≡◌, ◌≤◌, is_some, length, IfOk, IfErr};
 ghost use Rattle.std.specs.Arc.{arc_value};
 ghost use Rattle.c_checker_rules.specs.Checked.{program_tree};
 ghost use Rattle.cminor_lowering.specs.Programs.{low};
@@ -23,7 +23,7 @@ use std::thread::Threads;
 /// Compiles a C text that was made ready by a farm with these quorums and a node for each pair of disks, a thread for each node, each of which
 /// takes so many turns at most. Then each two neighbours meet, and the program is linked, with its bundle where that is asked for. Between
 /// rounds of turns it is told how far they are.
-pub fn build_bundled<
+pub fn build<
     D: Pair + Drop + Send,
     O: Oracles + Drop + Send,
     H: Naming + Send,
@@ -60,6 +60,7 @@ pub fn build_bundled<
     // The disks come first, then the lowest node that failed, then what is not counted, or not linked.
     ensures refused { IfErr result (IsUnbuilt D.Disk D.Pair.own H.Naming quorums seed source disks.items) }
 {
+    // There is one node at least.
     let _nodes = quorums.nodes();
     let farm = match Farm::over(rt, alloc, hall, source, disks, oracles, seed, quorums) {
         Ok(farm) => farm,
@@ -76,37 +77,4 @@ pub fn build_bundled<
         Err(fault) => return Err(fault),
     };
     built_by(alloc, &source, &nodes, bundles)
-}
-
-/// The same, with no bundle.
-pub fn build<
-    D: Pair + Drop + Send,
-    O: Oracles + Drop + Send,
-    H: Naming + Send,
-    R: Threads + Wait + Sync,
-    M: Meter,
->(
-    rt: &R,
-    alloc: Global,
-    hall: &Hall<H>,
-    source: Source,
-    disks: Vec<D>,
-    oracles: Vec<O>,
-    turns: u64,
-    seed: u64,
-    quorums: Quorums,
-    meter: &mut M,
-) -> Result<Built, BuildError>
-    requires size { length disks.items ≡ quorums.nodes }
-    requires oracles { length oracles.items ≡ length disks.items }
-    requires translated { arc_value source.translated ≡ gen (low (program_tree source.program)) }
-    requires names { HaveNames (program_tree source.program) }
-    requires count { length (arc_value source.translated).functions ≤ 64 }
-    ensures built { IfOk result (IsBuilt D.Disk D.Pair.own H.Naming quorums seed source disks.items) }
-    ensures bare { IfOk result (λ built. is_some built.bundle ≡ false) }
-    ensures refused { IfErr result (IsUnbuilt D.Disk D.Pair.own H.Naming quorums seed source disks.items) }
-{
-    build_bundled(
-        rt, alloc, hall, source, disks, oracles, turns, seed, quorums, false, meter,
-    )
 }

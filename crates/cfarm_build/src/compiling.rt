@@ -5,7 +5,7 @@ ghost use Rattle.cfarm_files.specs.Locking.{CoversFolder};
 ghost use Rattle.cfarm_options.specs.Quorums.{quorums_of};
 ghost use Rattle.cfarm_build.specs.Farmed.{FarmCompiles, FarmCompilesNot};
 
-use crate::building::build_bundled;
+use crate::building::build;
 use crate::farm::Farm;
 use cfarm_build_folder::{
     BuildError, BuildingError, Optimisers, Optimising, locked, old_among, open_disks, optimisers_of,
@@ -107,7 +107,7 @@ fn compiled_by<H: Naming + Send, R: Threads + Wait + Sync, F: Files, M: Meter>(
     };
     let (turns, seed) = (u64::from(options.turns), options.seed);
     let bundles = options.bundle.is_some();
-    match build_bundled(
+    match build(
         rt, alloc, hall, source, disks, oracles, turns, seed, quorums, bundles, meter,
     ) {
         Ok(built) => Ok((built, lock)),

@@ -8,7 +8,7 @@ mod compiling;
 mod farm;
 mod text_building;
 
-pub use building::{build, build_bundled};
+pub use building::build;
 pub use cfarm_build_folder::{BuildError, of_build};
 pub use farm::Farm;
 pub use text_building::build_text;

@@ -119,7 +119,7 @@ fn build_told<H: Naming + Send, R: Threads + Wait + Sync>(
         return None;
     };
     let made = build(
-        threads, alloc, hall, source, disks, oracles, TURNS, 1, quorums, &mut Quiet,
+        threads, alloc, hall, source, disks, oracles, TURNS, 1, quorums, false, &mut Quiet,
     );
     match made {
         Ok(_built) => owned(alloc, "linked"),

@@ -1,4 +1,4 @@
--- Why `compiled_by` meets its clauses `refused` and `built`, and it may call `build_bundled`.
+-- Why `compiled_by` meets its clauses `refused` and `built`, and it may call `build`.
 use Rattle.std.proofs.Common.{ap, subst, sym, ◌∙◌, arith}
 use Rattle.cfarm_build.specs.Built.{IsBuilt}
 use Rattle.cfarm_build_folder.specs.BuildError.{BuildError}
@@ -45,23 +45,23 @@ pub returns-in_default-clause-refused : goal.returns-in_default-clause-refused
 returns-in_default-clause-refused g c =
     record { why = tt; left = of_both c.args.options.folder.now _ _ _ c.in-Ok-locked.ensures.made c.in-Ok-open_disks.ensures.made }
 
-pub build_bundled-requires-clause-size : goal.build_bundled-requires-clause-size
-build_bundled-requires-clause-size g c κs within =
+pub build-requires-clause-size : goal.build-requires-clause-size
+build-requires-clause-size g c κs within =
     c.in-Ok-open_disks.ensures.given.count_is ∙ sym (ap (λ (q : Sizes). q.nodes) c.requires)
 
-pub build_bundled-requires-clause-oracles : goal.build_bundled-requires-clause-oracles
-build_bundled-requires-clause-oracles g c κs within =
+pub build-requires-clause-oracles : goal.build-requires-clause-oracles
+build-requires-clause-oracles g c κs within =
     omega (arith, c.in-Ok-oracles_of.ensures, c.from-nodes.ensures, c.nodes.ensures.value, ap (λ (q : Sizes). q.nodes) c.requires, c.in-Ok-open_disks.ensures.given.count_is)
 
-pub returns-in-Ok-build_bundled-clause-built : goal.returns-in-Ok-build_bundled-clause-built
-returns-in-Ok-build_bundled-clause-built g c =
+pub returns-in-Ok-build-clause-built : goal.returns-in-Ok-build-clause-built
+returns-in-Ok-build-clause-built g c =
     let made = c.in-Ok.ensures in
     let source = c.in-Ok.source in
     let disks = c.in-Ok-open_disks.disks.items in
-    let built = c.in-Ok-build_bundled.built in
+    let built = c.in-Ok-build.built in
     let is = ready c.args.text.now source made.accepted made.translated made.keeps made.names made.count made.digest in
     let built_is = subst (λ (q : Sizes). IsBuilt g.F.Disk.Disk g.F.Disk.Pair g.H.Naming q c.args.options.seed source disks built)
-    c.requires c.in-Ok-build_bundled.ensures.built in
+    c.requires c.in-Ok-build.ensures.built in
     record {
       source = source;
       source_is = is;
@@ -74,15 +74,15 @@ returns-in-Ok-build_bundled-clause-built g c =
       made = of_both c.args.options.folder.now _ _ _ c.in-Ok-locked.ensures.made c.in-Ok-open_disks.ensures.made;
     }
 
-pub returns-in-Err-build_bundled-clause-refused : goal.returns-in-Err-build_bundled-clause-refused
-returns-in-Err-build_bundled-clause-refused g c =
+pub returns-in-Err-build-clause-refused : goal.returns-in-Err-build-clause-refused
+returns-in-Err-build-clause-refused g c =
     let made = c.in-Ok.ensures in
     let source = c.in-Ok.source in
     let disks = c.in-Ok-open_disks.disks.items in
-    let fault = c.in-Err-build_bundled.fault in
+    let fault = c.in-Err-build.fault in
     not_compiled g.F.Disk.Disk g.F.Disk.Pair g.H.Naming (g.F.Files.may_give c.args.files.now) (g.F.Files.may_give c.locked.new.files)
     c.in-Ok-locked.ensures.others c.args.options c.args.text.now source
     (ready _ _ made.accepted made.translated made.keeps made.names made.count made.digest) _ _ (Build fault)
     (not_built g.F.Disk.Disk g.F.Disk.Pair g.H.Naming (g.F.Files.may_give c.locked.new.files) c.args.options source disks c.in-Ok-open_disks.ensures.given fault
-    (subst (λ (q : Sizes). IsUnbuilt g.F.Disk.Disk g.F.Disk.Pair g.H.Naming q c.args.options.seed source disks fault) c.requires c.in-Err-build_bundled.ensures.refused))
+    (subst (λ (q : Sizes). IsUnbuilt g.F.Disk.Disk g.F.Disk.Pair g.H.Naming q c.args.options.seed source disks fault) c.requires c.in-Err-build.ensures.refused))
     (of_both c.args.options.folder.now _ _ _ c.in-Ok-locked.ensures.made c.in-Ok-open_disks.ensures.made)

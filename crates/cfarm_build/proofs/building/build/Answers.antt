@@ -14,7 +14,7 @@ use Rattle.cfarm_build_turns.proofs.Turning.{Turns, failed_same, have_met_fit, r
 use Rattle.cfarm_build.proofs.Made.{built_so, refused_so}
 use Rattle.cfarm_build.proofs.Unbuilt.{not_run}
 use Rattle.cfarm_build.proofs.Unmet.{unmet}
-use Rattle.cfarm_build.proofs.building.build_bundled.Goals as goal
+use Rattle.cfarm_build.proofs.building.build.Goals as goal
 
 pub run_rounds-requires-clause-some : goal.run_rounds-requires-clause-some
 run_rounds-requires-clause-some g c κs within =
