@@ -3,7 +3,7 @@ use Rattle.std.proofs.Common.{◌≡◌, ℕ, List, Result, Ok, Err}
 use Rattle.std.specs.Prelude.{IfOk, IfErr}
 use Rattle.sha2.specs.Sha256.{sha256}
 use Rattle.farm_nodes_source.specs.declared.fault.SourceFault.{SourceFault}
-use Rattle.farm_nodes_source.specs.declared.source.Begun.{Begun}
+use Rattle.cfarm_verify_reading.specs.declared.begun.Begun.{Begun}
 use Rattle.cfarm_verify_reading.specs.Found.{IsBegunOf, IsSourceOf, with_digest}
 
 pub is_source : (text digest : List ℕ) (found : Result Begun SourceFault) → digest ≡ sha256 text → IfOk found (IsBegunOf text)

@@ -21,7 +21,7 @@ use Rattle.cfarm_verify_reading.specs.Spelled.{IsNoProgram, IsSpelled}
 use Rattle.cfarm_verify_reading.specs.declared.forms.Forms.{Forms}
 use Rattle.farm_nodes_source.specs.Refused.{IsOnlyTooLarge, IsUnprepared}
 use Rattle.farm_nodes_source.specs.declared.fault.SourceFault.{SourceFault}
-use Rattle.farm_nodes_source.specs.declared.source.Begun.{Begun}
+use Rattle.cfarm_verify_reading.specs.declared.begun.Begun.{Begun}
 use Rattle.farm_nodes_source.specs.declared.source.Source.{Source}
 
 -- The text is accepted, this is its one program, and this is what that is translated to.

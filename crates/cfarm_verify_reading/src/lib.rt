@@ -2,6 +2,7 @@
 //! translated by itself in a thread of its own; the linked program; and the bundle, with whether its offers stand.
 #![tactic(auto)]
 
+mod begun;
 mod bodies;
 mod forms;
 mod functions;

@@ -1,32 +1,21 @@
 //! The program of a C text, made ready, with the text's digest.
 
 ghost use Rattle.std.specs.Prelude.{◌≡◌, IfOk, IfErr};
-ghost use Rattle.std.specs.Arc.{arc_value};
 ghost use Rattle.c_syntax.specs.Trees.{UnitTree};
 ghost use Rattle.c_texts.specs.Accepted.{IsAccepted};
 ghost use Rattle.farm_nodes_source.specs.Refused.{IsOnlyTooLarge, IsUnprepared};
 ghost use Rattle.sha2.specs.Sha256.{sha256};
 ghost use Rattle.cfarm_verify_reading.specs.Found.{IsBegunOf, IsPrepared, with_digest};
 
+use crate::begun::Begun;
 use crate::translating::made_beside;
 use c_texts::accept;
 use cminor_program_ranges::accepted_has_names;
-use farm_nodes_source::{Begun, Source, SourceFault};
+use farm_nodes_source::{Source, SourceFault, shared};
 use lang_base::NoMemory;
 use sha2::{Digest, Sha256};
 use std::alloc::Global;
-use std::sync::Arc;
 use std::thread::{Threads, join};
-
-/// What many may hold.
-fn shared<T: Drop>(alloc: Global, value: T) -> Result<Arc<T>, NoMemory>
-    ensures { IfOk result (λ held. arc_value held ≡ value) }
-{
-    match Arc::new(alloc, value) {
-        Ok(held) => Ok(held),
-        Err(_) => Err(NoMemory),
-    }
-}
 
 /// The program of a text, made ready for the first pass: its functions side by side.
 fn made_ready<R: Threads + Sync>(rt: &R, alloc: Global, text: &[u8]) -> Result<Begun, SourceFault>

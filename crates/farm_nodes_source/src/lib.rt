@@ -10,6 +10,6 @@ mod translating;
 
 pub use fault::SourceFault;
 pub use naming::{name_of, text_of};
-pub use preparing::{begin, prepare};
-pub use source::{Begun, Source};
+pub use preparing::{prepare, shared};
+pub use source::Source;
 pub use translating::translated;

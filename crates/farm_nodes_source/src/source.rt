@@ -13,12 +13,3 @@ pub struct Source {
     /// The SHA-256 of the text.
     pub digest: [u8; 32],
 }
-
-/// The same without the text's digest.
-#[derive(Drop)]
-pub struct Begun {
-    /// The checked program.
-    pub program: CProgram,
-    /// Its translation to RTL.
-    pub translated: Arc<Program<Function>>,
-}

@@ -2,7 +2,7 @@
 use Rattle.std.proofs.Common.{map, sym, ap, subst, ◌∙◌}
 use Rattle.cminor_program_ranges.specs.Names.{HaveNames}
 use Rattle.farm_nodes_source.proofs.Numbered.{lowered_names, translated_names}
-use Rattle.farm_nodes_source.proofs.preparing.begin.Goals as goal
+use Rattle.farm_nodes_source.proofs.preparing.prepare.Goals as goal
 
 pub translated-requires : goal.translated-requires
 translated-requires c =
