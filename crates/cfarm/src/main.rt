@@ -9,7 +9,7 @@ mod screen;
 use crate::screen::Screen;
 use cfarm_files::HostFiles;
 use cfarm_output::{ErrorLines, ErrorWriter, Paced};
-use cfarm_program::{run, tell_no_text};
+use cfarm_program::{Host, run, tell_no_text};
 use cfarm_program_status::tell_no_memory;
 use rooms_hall::{Naming, Opened};
 use std::io::{BufWriter, ErrorKind, IsTerminal};
@@ -40,12 +40,15 @@ fn run_in<H: Naming + Send, R: Threads + Wait + Sync, E: ErrorLines>(
     let hall = opened.named::<H>();
     let mut files = HostFiles(rt);
     let mut screen = Screen::over(rt);
+    let host = Host {
+        threads,
+        alloc,
+        hall: &hall,
+    };
     let is_seen = rt.stderr().is_terminal();
     match BufWriter::new(alloc, io::writer(rt)) {
         Ok(out) => run(
-            threads,
-            alloc,
-            &hall,
+            &host,
             is_seen,
             words,
             &mut files,

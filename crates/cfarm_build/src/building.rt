@@ -7,6 +7,7 @@ ghost use Rattle.rtlgen_definition.specs.Gen.{gen};
 ghost use Rattle.cfarm_build.specs.Built.{IsBuilt};
 ghost use Rattle.cfarm_build.specs.Refused.{IsUnbuilt};
 
+use crate::host::Host;
 use cfarm_build_folder::{BuildError, Farm};
 use cfarm_build_linking::built_by;
 use cfarm_build_offers::Oracles;
@@ -15,8 +16,7 @@ use cfarm_options::Meter;
 use durable_pair::Pair;
 use farm_nodes_source::Source;
 use paxos_core_world::quorum::Quorums;
-use rooms_hall::{Hall, Naming};
-use std::alloc::Global;
+use rooms_hall::Naming;
 use std::sync::Wait;
 use std::thread::Threads;
 
@@ -30,9 +30,7 @@ pub fn build<
     R: Threads + Wait + Sync,
     M: Meter,
 >(
-    rt: &R,
-    alloc: Global,
-    hall: &Hall<H>,
+    host: &Host<'_, H, R>,
     source: Source,
     disks: Vec<D>,
     oracles: Vec<O>,
@@ -60,6 +58,7 @@ pub fn build<
     // The disks come first, then the lowest node that failed, then what is not counted, or not linked.
     ensures refused { IfErr result (IsUnbuilt D.Disk D.Pair.own H.Naming quorums seed source disks.items) }
 {
+    let (rt, alloc, hall) = (host.threads, host.alloc, host.hall);
     // There is one node at least.
     let _nodes = quorums.nodes();
     let farm = match Farm::over(rt, alloc, hall, source, disks, oracles, seed, quorums) {

@@ -7,6 +7,7 @@ ghost use Rattle.cfarm_build.specs.Farmed.{FarmCompiles, FarmCompilesNot};
 
 use crate::building::build;
 use crate::farm::Farm;
+use crate::host::Host;
 use cfarm_build_folder::{
     BuildError, BuildingError, Optimisers, Optimising, locked, old_among, open_disks, optimisers_of,
 };
@@ -17,7 +18,7 @@ use cfarm_options::{BuildOptions, Meter, Optimise};
 use farm_nodes_source::prepare;
 use lang_base::{Named, NoMemory};
 use paxos_core_world::quorum::Quorums;
-use rooms_hall::{Hall, Naming};
+use rooms_hall::Naming;
 use rtl_language::Function;
 use std::alloc::Global;
 use std::sync::Wait;
@@ -63,9 +64,7 @@ fn oracles_of<'a>(
 /// What is built of a text by a farm with the quorums that are asked for over the journals of the folder, and the folder's lock. The text
 /// comes first, then the lock, then the offers that were made outside, then the journals, then the farm.
 fn compiled_by<H: Naming + Send, R: Threads + Wait + Sync, F: Files, M: Meter>(
-    rt: &R,
-    alloc: Global,
-    hall: &Hall<H>,
+    host: &Host<'_, H, R>,
     text: &[u8],
     options: BuildOptions<'_>,
     quorums: Quorums,
@@ -79,6 +78,7 @@ fn compiled_by<H: Naming + Send, R: Threads + Wait + Sync, F: Files, M: Meter>(
     ensures locked { IfOk result (λ r. CoversFolder (F.covers r.1) options.entry.folder.now) }
     ensures refused { IfErr result (FarmCompilesNot ⟦<F as Farm<H>>⟧ options.entry text.now files) }
 {
+    let alloc = host.alloc;
     let source = match prepare(alloc, text) {
         Ok(source) => source,
         Err(fault) => return Err(BuildingError::Build(BuildError::Source(fault))),
@@ -108,7 +108,7 @@ fn compiled_by<H: Naming + Send, R: Threads + Wait + Sync, F: Files, M: Meter>(
     let (turns, seed) = (u64::from(options.turns), options.seed);
     let bundles = options.bundle.is_some();
     match build(
-        rt, alloc, hall, source, disks, oracles, turns, seed, quorums, bundles, meter,
+        host, source, disks, oracles, turns, seed, quorums, bundles, meter,
     ) {
         Ok(built) => Ok((built, lock)),
         Err(fault) => Err(BuildingError::Build(fault)),
@@ -117,9 +117,7 @@ fn compiled_by<H: Naming + Send, R: Threads + Wait + Sync, F: Files, M: Meter>(
 
 /// The same, with nothing shown any more behind it but what was ignored.
 pub(crate) fn compiled<H: Naming + Send, R: Threads + Wait + Sync, F: Files, M: Meter>(
-    rt: &R,
-    alloc: Global,
-    hall: &Hall<H>,
+    host: &Host<'_, H, R>,
     text: &[u8],
     options: BuildOptions<'_>,
     quorums: Quorums,
@@ -132,10 +130,8 @@ pub(crate) fn compiled<H: Naming + Send, R: Threads + Wait + Sync, F: Files, M: 
     ensures locked { IfOk result (λ r. CoversFolder (F.covers r.1) options.entry.folder.now) }
     ensures refused { IfErr result (FarmCompilesNot ⟦<F as Farm<H>>⟧ options.entry text.now files) }
 {
-    let mut given = Vec::new(alloc);
-    let made = compiled_by(
-        rt, alloc, hall, text, options, quorums, files, meter, &mut given,
-    );
+    let mut given = Vec::new(host.alloc);
+    let made = compiled_by(host, text, options, quorums, files, meter, &mut given);
     meter.clear();
     tell_ignored(meter, &given);
     made

@@ -6,9 +6,11 @@
 mod building;
 mod compiling;
 mod farm;
+mod host;
 mod text_building;
 
 pub use building::build;
 pub use cfarm_build_folder::{BuildError, of_build};
 pub use farm::Farm;
+pub use host::Host;
 pub use text_building::build_text;

@@ -9,13 +9,14 @@ ghost use Rattle.cfarm_build.specs.Farmed.{FarmBuilds, FarmBuildsNot};
 
 use crate::compiling::compiled;
 use crate::farm::Farm;
+use crate::host::Host;
 use cfarm_build_folder::{BuildError, BuildingError, place_both};
 use cfarm_build_turns::Built;
 use cfarm_files::Files;
 use cfarm_options::{BuildOptions, Meter};
 use cfarm_output::print_whole;
 use paxos_core_world::quorum::Quorums;
-use rooms_hall::{Hall, Naming};
+use rooms_hall::Naming;
 use std::alloc::{AllocError, Global};
 use std::io::Write;
 use std::sync::Wait;
@@ -68,9 +69,7 @@ fn put_built<F: Files, W: Write>(
 /// the end: the bundle is put in its file, where one is asked for, then the linked program in its own, and then the report is printed on one
 /// line and flushed. What is shown while the farm runs is taken away before.
 pub fn build_text<H: Naming + Send, R: Threads + Wait + Sync, F: Files, M: Meter, W: Write>(
-    rt: &R,
-    alloc: Global,
-    hall: &Hall<H>,
+    host: &Host<'_, H, R>,
     text: &[u8],
     options: BuildOptions<'_>,
     quorums: Quorums,
@@ -88,9 +87,9 @@ pub fn build_text<H: Naming + Send, R: Threads + Wait + Sync, F: Files, M: Meter
     // bundle put. The output is the last that can be refused.
     ensures refused { IfErr result (FarmBuildsNot ⟦<F as Farm<H>>⟧ W.contents options.entry text.now files out) }
 {
-    let (built, lock) = match compiled(rt, alloc, hall, text, options, quorums, files, meter) {
+    let (built, lock) = match compiled(host, text, options, quorums, files, meter) {
         Ok(made) => made,
         Err(fault) => return Err(fault),
     };
-    put_built(alloc, options, files, &lock, built, out)
+    put_built(host.alloc, options, files, &lock, built, out)
 }

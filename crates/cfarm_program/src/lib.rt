@@ -20,4 +20,5 @@ mod performing;
 mod program;
 mod running;
 
+pub use cfarm_build::Host;
 pub use program::{run, tell_no_text};

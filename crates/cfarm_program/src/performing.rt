@@ -7,7 +7,7 @@ ghost use Rattle.cfarm_options.specs.Names.{is_given_taken, is_taken};
 ghost use Rattle.cfarm_program.specs.Met.{AreMet};
 ghost use Rattle.cfarm_program.specs.Performed.{Built, BuiltApart, Does, Looks};
 
-use cfarm_build::{Farm, build_text, of_build};
+use cfarm_build::{Farm, Host, build_text, of_build};
 use cfarm_command_line_others::{FsckOptions, Task};
 use cfarm_files::{FileFault, Files};
 use cfarm_fsck_files::look_through;
@@ -16,8 +16,7 @@ use cfarm_output::{ErrorLines, Paced};
 use cfarm_program_looks::{emit_form, judge_offer, list_records, show_text, verify_files};
 use cfarm_program_runs::{check, lay_out, play, run_bytes, run_text};
 use cfarm_program_status::{tell_among, tell_unread};
-use rooms_hall::{Hall, Naming};
-use std::alloc::Global;
+use rooms_hall::Naming;
 use std::io::Write;
 use std::sync::Wait;
 use std::thread::Threads;
@@ -32,9 +31,7 @@ fn build_apart<
     W: Write,
     E: ErrorLines,
 >(
-    rt: &R,
-    alloc: Global,
-    hall: &Hall<H>,
+    host: &Host<'_, H, R>,
     is_seen: bool,
     options: BuildOptions<'_>,
     path: &str,
@@ -51,11 +48,11 @@ fn build_apart<
     let Some(quorums) = options.quorums() else {
         unreachable!();
     };
-    match build_text(rt, alloc, hall, text, options, quorums, files, meter, out) {
+    match build_text(host, text, options, quorums, files, meter, out) {
         Ok(()) => 0,
         Err(fault) => {
             let status = fault.status();
-            let behind = of_build(alloc, is_seen, options, path, text, &*files, &fault);
+            let behind = of_build(host.alloc, is_seen, options, path, text, &*files, &fault);
             tell_among(err, false, fault, status, behind.as_str())
         }
     }
@@ -81,9 +78,7 @@ fn taken_bundle<'a>(path: &str, options: BuildOptions<'a>) -> Option<&'a str>
 
 /// The same, or tells that the bundle is to be put in the place of such a file.
 fn build<H: Naming + Send, R: Threads + Wait + Sync, F: Files, M: Meter, W: Write, E: ErrorLines>(
-    rt: &R,
-    alloc: Global,
-    hall: &Hall<H>,
+    host: &Host<'_, H, R>,
     is_seen: bool,
     asked: BuildOptions<'_>,
     path: &str,
@@ -99,16 +94,12 @@ fn build<H: Naming + Send, R: Threads + Wait + Sync, F: Files, M: Meter, W: Writ
 {
     match taken_bundle(path, asked) {
         Some(bundle) => tell_unread(err, bundle, FileFault::Refused),
-        None => build_apart(
-            rt, alloc, hall, is_seen, asked, path, text, files, meter, out, err,
-        ),
+        None => build_apart(host, is_seen, asked, path, text, files, meter, out, err),
     }
 }
 
 fn look<H: Naming, R: Threads + Wait + Sync, F: Files, W: Write, E: ErrorLines>(
-    rt: &R,
-    alloc: Global,
-    hall: &Hall<H>,
+    host: &Host<'_, H, R>,
     options: FsckOptions<'_>,
     text: &[u8],
     files: &mut F,
@@ -123,9 +114,9 @@ fn look<H: Naming, R: Threads + Wait + Sync, F: Files, W: Write, E: ErrorLines>(
         unreachable!();
     };
     look_through(
-        rt,
-        alloc,
-        hall,
+        host.threads,
+        host.alloc,
+        host.hall,
         text,
         quorums,
         options.folder,
@@ -136,7 +127,7 @@ fn look<H: Naming, R: Threads + Wait + Sync, F: Files, W: Write, E: ErrorLines>(
 }
 
 /// Does the task on the bytes of its file: writes the output, tells a line on standard error where there is one, and
-/// gives the exit status. Where a user sees standard error the line is explained. `rt` starts the threads of the nodes that settle or build, and `hall` gives the rooms of a build their numbers.
+/// gives the exit status. Where a user sees standard error the line is explained.
 pub(crate) fn perform<
     H: Naming + Send,
     R: Threads + Wait + Sync,
@@ -145,9 +136,7 @@ pub(crate) fn perform<
     W: Write,
     E: ErrorLines,
 >(
-    rt: &R,
-    alloc: Global,
-    hall: &Hall<H>,
+    host: &Host<'_, H, R>,
     is_seen: bool,
     task: Task<'_>,
     path: &str,
@@ -161,19 +150,18 @@ pub(crate) fn perform<
     ensures does { Does ⟦<F as Farm<H>>⟧ W.Write E.ErrorLines is_seen task.entry path.now bytes.now result files out err }
     ensures table { result ≤ 7 }
 {
+    let alloc = host.alloc;
     match task {
         Task::Check(format) => check(alloc, is_seen, format, path, bytes, out, err),
         Task::Interpret(depth) => run_text(alloc, is_seen, path, bytes, depth, out, err),
-        Task::Build(options) => build(
-            rt, alloc, hall, is_seen, options, path, bytes, files, meter, out, err,
-        ),
+        Task::Build(options) => build(host, is_seen, options, path, bytes, files, meter, out, err),
         Task::Exec(limit, expected) => run_bytes(alloc, is_seen, bytes, limit, expected, out, err),
-        Task::Settle => lay_out(rt, alloc, bytes, out, err),
+        Task::Settle => lay_out(host.threads, alloc, bytes, out, err),
         Task::Simulate(showing) => play(alloc, showing, bytes, out, err),
         Task::Show => show_text(alloc, bytes, out, err),
         Task::List => list_records(alloc, bytes, out, err),
         Task::Verify(paths) => verify_files(
-            rt,
+            host.threads,
             alloc,
             &*files,
             bytes,
@@ -192,6 +180,6 @@ pub(crate) fn perform<
             out,
             err,
         ),
-        Task::Fsck(options) => look(rt, alloc, hall, options, bytes, files, out, err),
+        Task::Fsck(options) => look(host, options, bytes, files, out, err),
     }
 }

@@ -6,7 +6,7 @@ ghost use Rattle.cfarm_program_status.specs.Telling.{IsTold};
 ghost use Rattle.cfarm_program.specs.Runs.{IsHelp, IsHelped, IsMistake, Runs, TellsMemory, TellsMistake, no_text};
 
 use crate::running::run_task;
-use cfarm_build::Farm;
+use cfarm_build::{Farm, Host};
 use cfarm_command_line::asked_for;
 use cfarm_command_line_others::offered;
 use cfarm_files::Files;
@@ -14,8 +14,7 @@ use cfarm_options::Meter;
 use cfarm_output::{ErrorLines, Paced, Unwritten};
 use cfarm_program_status::{UNWRITTEN, tell, tell_no_memory};
 use clap::error::ErrorKind;
-use rooms_hall::{Hall, Naming};
-use std::alloc::Global;
+use rooms_hall::Naming;
 use std::io::Write;
 use std::sync::Wait;
 use std::thread::Threads;
@@ -60,13 +59,11 @@ fn tell_refused<W: Write, E: ErrorLines>(fault: &clap::Error, out: &mut Paced<W>
 }
 
 /// Does what the words of a command line ask for, the first of which is the program's name: says where the quorums of a build need not
-/// meet, and else reads the file, writes the output, tells a line on standard error where there is one, and gives the exit status. `rt` starts threads for `settle`, `build`,
-/// `verify` and `fsck`, `hall` gives the rooms of a build their numbers, and `meter` shows how far it is. `is_seen` says that a user sees standard error, where a line is then
-/// explained; whether one sees the output, the output knows.
+/// meet, and else reads the file, writes the output, tells a line on standard error where there is one, and gives the exit status. The host's
+/// threads are for `settle`, `build`, `verify` and `fsck`, and `meter` shows how far a build is. `is_seen` says that
+/// a user sees standard error, where a line is then explained; whether one sees the output, the output knows.
 pub fn run<H: Naming + Send, R: Threads + Wait + Sync, F: Files, M: Meter, W: Write, E: ErrorLines>(
-    rt: &R,
-    alloc: Global,
-    hall: &Hall<H>,
+    host: &Host<'_, H, R>,
     is_seen: bool,
     words: &[String],
     files: &mut F,
@@ -78,9 +75,9 @@ pub fn run<H: Naming + Send, R: Threads + Wait + Sync, F: Files, M: Meter, W: Wr
     ensures table { result ≤ 7 }
 {
     let choices = offered();
-    match asked_for(alloc, words, choices) {
+    match asked_for(host.alloc, words, choices) {
         Ok(Some(asked)) => run_task(
-            rt, alloc, hall, is_seen, asked.task, asked.path, files, meter, out, err,
+            host, is_seen, asked.task, asked.path, files, meter, out, err,
         ),
         Ok(None) => MISTAKEN,
         Err(fault) => tell_refused(&fault, out, err),

@@ -5,14 +5,13 @@ ghost use Rattle.cfarm_program.specs.Met.{AreMet, IsUnmet};
 ghost use Rattle.cfarm_program.specs.Performed.{Reads, RunsTask};
 
 use crate::performing::perform;
-use cfarm_build::Farm;
+use cfarm_build::{Farm, Host};
 use cfarm_command_line_others::Task;
 use cfarm_files::Files;
 use cfarm_options::{AskedSizes, Meter};
 use cfarm_output::{ErrorLines, Paced};
 use cfarm_program_status::{tell, tell_unread};
-use rooms_hall::{Hall, Naming};
-use std::alloc::Global;
+use rooms_hall::Naming;
 use std::io::Write;
 use std::sync::Wait;
 use std::thread::Threads;
@@ -48,9 +47,7 @@ fn read_and_perform<
     W: Write,
     E: ErrorLines,
 >(
-    rt: &R,
-    alloc: Global,
-    hall: &Hall<H>,
+    host: &Host<'_, H, R>,
     is_seen: bool,
     task: Task<'_>,
     path: &str,
@@ -64,9 +61,7 @@ fn read_and_perform<
     ensures table { result ≤ 7 }
 {
     match files.read(path) {
-        Ok(bytes) => perform(
-            rt, alloc, hall, is_seen, task, path, &bytes, files, meter, out, err,
-        ),
+        Ok(bytes) => perform(host, is_seen, task, path, &bytes, files, meter, out, err),
         Err(fault) => tell_unread(err, path, fault),
     }
 }
@@ -81,9 +76,7 @@ pub(crate) fn run_task<
     W: Write,
     E: ErrorLines,
 >(
-    rt: &R,
-    alloc: Global,
-    hall: &Hall<H>,
+    host: &Host<'_, H, R>,
     is_seen: bool,
     task: Task<'_>,
     path: &str,
@@ -97,6 +90,6 @@ pub(crate) fn run_task<
 {
     match unmet(task) {
         Some(sizes) => tell(err, sizes, UNMET),
-        None => read_and_perform(rt, alloc, hall, is_seen, task, path, files, meter, out, err),
+        None => read_and_perform(host, is_seen, task, path, files, meter, out, err),
     }
 }

@@ -3,7 +3,7 @@
 use crate::answers::line_of;
 use acceptor_log::Log;
 use acceptor_log_form::{Header, Record};
-use cfarm_build::build;
+use cfarm_build::{Host, build};
 use cfarm_options::Meter;
 use durable_model::Disk;
 use durable_pair_memory::MemoryPair;
@@ -118,8 +118,13 @@ fn build_told<H: Naming + Send, R: Threads + Wait + Sync>(
     let Ok(source) = prepare(alloc, text) else {
         return None;
     };
+    let host = Host {
+        threads,
+        alloc,
+        hall,
+    };
     let made = build(
-        threads, alloc, hall, source, disks, oracles, TURNS, 1, quorums, false, &mut Quiet,
+        &host, source, disks, oracles, TURNS, 1, quorums, false, &mut Quiet,
     );
     match made {
         Ok(_built) => owned(alloc, "linked"),

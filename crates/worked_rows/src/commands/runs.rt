@@ -2,7 +2,7 @@
 
 use cfarm_files::Files;
 use cfarm_output::{ErrorWriter, Paced};
-use cfarm_program::run;
+use cfarm_program::{Host, run};
 use rooms_hall::{Hall, Naming};
 use std::alloc::Global;
 use std::sync::Wait;
@@ -57,10 +57,13 @@ pub fn run_over<H: Naming + Send, R: Threads + Wait + Sync, F: Files>(
     };
     let mut out = Paced::over(out, here.is_seen);
     let mut lines = ErrorWriter::over(err);
+    let host = Host {
+        threads: here.threads,
+        alloc: here.alloc,
+        hall: here.hall,
+    };
     let status = run(
-        here.threads,
-        here.alloc,
-        here.hall,
+        &host,
         here.is_seen,
         words,
         files,
