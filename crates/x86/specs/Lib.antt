@@ -1,0 +1,10 @@
+pub mod Moves
+pub mod Operating
+pub mod Comparing
+pub mod Jumping
+pub mod Reaching
+pub mod Framing
+pub mod Calling
+pub mod Printing
+pub mod Meaning
+pub mod Runs

@@ -1,0 +1,5 @@
+pub mod Registers
+pub mod Cells
+pub mod Tables
+pub mod State
+pub mod Shows
