@@ -9,7 +9,7 @@ mod screen;
 use crate::screen::Screen;
 use cfarm_files::HostFiles;
 use cfarm_output::{ErrorLines, ErrorWriter, Paced};
-use cfarm_program::{Host, run, tell_no_text};
+use cfarm_program::{Host, OwnWords, run, tell_no_text};
 use cfarm_program_status::tell_no_memory;
 use rooms_hall::{Naming, Opened};
 use std::io::{BufWriter, ErrorKind, IsTerminal};
@@ -52,6 +52,7 @@ fn run_in<H: Naming + Send, R: Threads + Wait + Sync, E: ErrorLines>(
             is_seen,
             words,
             &mut files,
+            &OwnWords,
             &mut screen,
             &mut Paced::over(out, rt.stdout().is_terminal()),
             err,

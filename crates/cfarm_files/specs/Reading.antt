@@ -1,8 +1,8 @@
 -- What is known of a file that was read.
-use Rattle.std.specs.Prelude.{◌≡◌, ℕ, List, Option, None, Some, Result, Ok, Err, MatchOption, MatchResult}
+use Rattle.std.specs.Prelude.{◌≡◌, ℕ, Bool, true, false, List, Option, None, Some, Result, Ok, Err, MatchOption, MatchResult}
 use Rattle.std.specs.Global.{Vec}
 use Rattle.cfarm_files.specs.declared.fault.FileFault.{FileFault}
-use Rattle.cfarm_files.specs.declared.fault.FileFault.TheVariants.{Refused}
+use Rattle.cfarm_files.specs.declared.fault.FileFault.TheVariants.{NoMemory, Refused}
 
 -- where it is known what a file is read as, this is it
 abbrev pub IsKnownAs : Option (Result (List ℕ) FileFault) → Result (List ℕ) FileFault → Type 0
@@ -13,8 +13,26 @@ IsKnownAs (Some known) read = read ≡ known
 abbrev pub IsFileRead : Option (Result (List ℕ) FileFault) → Result (Vec ℕ) FileFault → Type 0
 IsFileRead known result = MatchResult result (λ bytes. IsKnownAs known (Ok bytes.items)) (λ fault. IsKnownAs known (Err fault))
 
--- the same where a file that is not there, which is known as one that is refused, is no fault
-abbrev pub IsFileReadIfThere : Option (Result (List ℕ) FileFault) → Result (Option (Vec ℕ)) FileFault → Type 0
-IsFileReadIfThere known result =
-    MatchResult result (λ found. MatchOption found (IsKnownAs known (Err Refused)) (λ bytes. IsKnownAs known (Ok bytes.items)))
-    (λ fault. IsKnownAs known (Err fault))
+-- where it is known whether something is there, it is so
+abbrev pub IsKnownThere : Option Bool → Bool → Type 0
+IsKnownThere None is_there = Unit {0}
+IsKnownThere (Some known) is_there = is_there ≡ known
+
+-- nothing is there, which is known as a file that is refused
+abbrev pub IsNotThere : Option (Result (List ℕ) FileFault) → Option Bool → Type 0
+IsNotThere known there = IsKnownAs known (Err Refused) × IsKnownThere there false
+
+-- something is there, and it is refused
+abbrev pub IsRefusedThere : Option (Result (List ℕ) FileFault) → Option Bool → Type 0
+IsRefusedThere known there = IsKnownAs known (Err Refused) × IsKnownThere there true
+
+-- there was no memory for the file, or it is there and refused
+abbrev pub IsFaultThere : Option (Result (List ℕ) FileFault) → Option Bool → FileFault → Type 0
+IsFaultThere known there NoMemory = IsKnownAs known (Err NoMemory)
+IsFaultThere known there Refused = IsRefusedThere known there
+
+-- what was read of a file that need not be there
+abbrev pub IsFileReadIfThere : Option (Result (List ℕ) FileFault) → Option Bool → Result (Option (Vec ℕ)) FileFault → Type 0
+IsFileReadIfThere known there result =
+    MatchResult result (λ found. MatchOption found (IsNotThere known there) (λ bytes. IsKnownAs known (Ok bytes.items)))
+    (IsFaultThere known there)

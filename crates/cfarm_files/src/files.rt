@@ -1,6 +1,6 @@
 //! What the program does with files.
 
-ghost use Rattle.std.specs.Prelude.{◌≡◌, ℕ, List, Option, None, Result, IfOk};
+ghost use Rattle.std.specs.Prelude.{◌≡◌, ℕ, Bool, List, Option, None, Result, IfOk};
 ghost use Rattle.cfarm_files.specs.declared.fault.FileFault.{FileFault};
 ghost use Rattle.cfarm_files.specs.Reading.{IsFileRead, IsFileReadIfThere};
 ghost use Rattle.cfarm_files.specs.Placing.{Placed, GivesNoMore, Makes, PlacesOrKeeps};
@@ -20,6 +20,9 @@ pub trait Files {
     /// What the file of a path is read as, where that is known.
     ghost known: { Self → List ℕ → Option (Result (List ℕ) FileFault) } = { λ _ _. None };
 
+    /// Whether something of a path is there, where that is known.
+    ghost there: { Self → List ℕ → Option Bool } = { λ _ _. None };
+
     /// The disks that may be given for the path of the new file and that of the old one.
     ghost may_give: { Self → List ℕ → List ℕ → Self.Disk → Type 0 } = { λ _ _ _ _. Unit {0} };
 
@@ -33,9 +36,9 @@ pub trait Files {
     fn read(&self, path: &str) -> Result<Vec<u8>, FileFault>
         ensures { IsFileRead (known self.now path.now) result };
 
-    /// The same, or none where nothing of this path is there. A link to nothing is refused.
+    /// The same, or none where nothing of this path is there. What is there and is not read is refused, as a link to nothing is.
     fn read_if_there(&self, path: &str) -> Result<Option<Vec<u8>>, FileFault>
-        ensures { IsFileReadIfThere (known self.now path.now) result };
+        ensures { IsFileReadIfThere (known self.now path.now) (there self.now path.now) result };
 
     /// The lock of this folder, which is that of the file of this path in it; the file is made, empty, where there is none, and
     /// stays. Refused, and not waited for, where somebody has the lock.

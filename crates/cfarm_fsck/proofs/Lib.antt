@@ -1,5 +1,6 @@
 pub mod ChosenLemmas
 pub mod Begun
 pub mod Answered
+pub mod Accepted
 pub mod Opening
 pub mod Telling

@@ -9,6 +9,7 @@ use Rattle.paxos_core_world.specs.Quorum.{Sizes}
 use Rattle.acceptor_log_form.specs.declared.record.Record.{Record}
 use Rattle.acceptor_log_form.specs.declared.errors.LogError.{LogError}
 use Rattle.acceptor_log_form.specs.declared.errors.LogError.TheVariants as log
+use Rattle.farm_nodes_open_seats.specs.Checked.{WereAccepted}
 use Rattle.farm_nodes_open_seats.specs.Nodes.{AreMade}
 use Rattle.farm_nodes_open_seats.specs.Read.{IsKeptPart}
 use Rattle.farm_nodes_open_seats.specs.Kept.{AreSettled}
@@ -23,10 +24,12 @@ use Rattle.cfarm_fsck.specs.Folder.{AreJournalsIn, IsRefusedFile}
 use Rattle.cfarm_fsck.specs.Telling.{folder_lines}
 
 module _ (q : Sizes) (digest : List ℕ) (program : Program Function) (files : List NodeFiles) where
-  -- A farm opens over the folder: its journals list these records, which leave these kept parts, and those are settled.
+  -- A farm opens over the folder: its journals list these records, which are in order and leave these kept parts; the bytes of each
+  -- offer among them spell one, which its pass accepts; and what was kept of each room is settled.
   pub record Opens (journals : List (ℕ × Vec Record)) (kept : List (Vec KeptPart)) : Type 0 where
     pub listed : AreJournalsIn q digest files journals
     pub are_kept : AreMade (IsKeptPart (length program.functions) (length journals)) journals (length journals) kept
+    pub accepted : WereAccepted journals (length journals)
     pub settled : (f : ℕ) → f < length program.functions → AreSettled q kept f
 
   -- so it does, and these are the lines

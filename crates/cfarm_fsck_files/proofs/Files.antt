@@ -1,9 +1,9 @@
 -- The files of the nodes, one more at a time.
-use Rattle.std.proofs.Common.{◌≡◌, ℕ, zero, suc, ◌<◌, List, [], ◌∷◌, ◌++◌, length, Option, Some, Result, refl, sym, ap, subst, arith, inl, inr}
+use Rattle.std.proofs.Common.{◌≡◌, ℕ, zero, suc, ◌<◌, List, [], ◌∷◌, ◌++◌, length, Option, Some, refl, sym, ap, subst, arith, inl, inr}
 use Rattle.std.specs.Prelude.{slice_get}
 use Rattle.std.proofs.lemmas.Bool.{cases_eq}
 use Rattle.std.proofs.lemmas.Option.{slice_get_within}
-use Rattle.cfarm_files.specs.declared.fault.FileFault.{FileFault}
+use Rattle.cfarm_files.specs.declared.files.Files as filing
 use Rattle.cfarm_fsck_journals.specs.declared.files.NodeFiles.{NodeFiles}
 use Rattle.cfarm_fsck_files.specs.Reading.{AreOfNode, AreSome}
 
@@ -22,16 +22,16 @@ longer : {A : Type 0} (xs : List A) (x : A) → length (xs ++ x ∷ []) ≡ suc 
 longer [] x = refl
 longer (z ∷ xs) x = ap suc (longer xs x)
 
-module _ (known : List ℕ → Option (Result (List ℕ) FileFault)) (folder : List ℕ) where
-  pub none_read : AreSome known folder []
+module _ {F D L : Type 0} (over : filing.Ghosts F D L) (given : F) (folder : List ℕ) where
+  pub none_read : AreSome over given folder []
   none_read = record { each = λ node files e. absurd (cc e) }
 
-  pub one_more : (found : List NodeFiles) (files : NodeFiles) → AreSome known folder found → AreOfNode known folder (length found) files
-      → AreSome known folder (found ++ files ∷ [])
+  pub one_more : (found : List NodeFiles) (files : NodeFiles) → AreSome over given folder found → AreOfNode over given folder (length found) files
+      → AreSome over given folder (found ++ files ∷ [])
   one_more found files some is = record {
     each = λ node it e. elim (cases_eq node (length found)) [
-      | inl at ↦ subst (λ x. AreOfNode known folder node x) (last found files it node at e)
-          (subst (λ n. AreOfNode known folder n files) (sym at) is)
+      | inl at ↦ subst (λ x. AreOfNode over given folder node x) (last found files it node at e)
+          (subst (λ n. AreOfNode over given folder n files) (sym at) is)
       | inr other ↦
           let within = slice_get_within (found ++ files ∷ []) node it e in
           some.each node it (front found files it node (omega (arith, other, within, longer found files)) e)

@@ -1,5 +1,5 @@
 -- What `fsck` comes to, on the bytes of its text: what it made and wrote, and what it answers.
-use Rattle.std.specs.Prelude.{◌≡◌, ◌⊎◌, ℕ, List, Option, Result}
+use Rattle.std.specs.Prelude.{◌≡◌, ◌⊎◌, ℕ, List}
 use Rattle.std.specs.Arc.{arc_value}
 use Rattle.std.specs.String.{string_bytes}
 use Rattle.paxos_core_world.specs.Quorum.{Sizes}
@@ -12,8 +12,9 @@ use Rattle.cfarm_build_faults.specs.Statuses.{status_of}
 use Rattle.cfarm_build_faults.specs.declared.error.BuildError.{BuildError}
 use Rattle.cfarm_build_faults.specs.declared.error.BuildError.TheVariants as build
 use Rattle.cfarm_files.specs.Locking.{lock_path}
-use Rattle.cfarm_files.specs.Placing.{Placed, Keeps, Makes}
+use Rattle.cfarm_files.specs.Placing.{Keeps, Makes}
 use Rattle.cfarm_files.specs.declared.fault.FileFault.{FileFault}
+use Rattle.cfarm_files.specs.declared.files.Files as filing
 use Rattle.cfarm_files.specs.declared.fault.FileFault.TheVariants as file
 use Rattle.cfarm_fsck.specs.Told as fsck
 use Rattle.cfarm_fsck.specs.declared.error.FsckError.{FsckError}
@@ -45,12 +46,12 @@ Found q source files answer before after =
     (fsck.IsTold q source.digest (arc_value source.translated) files before after × (answer ≡ quiet))
     ⊎ ((fault : FsckError) × fsck.IsNotTold q source.digest (arc_value source.translated) files fault before after × (answer ≡ fsck_fault fault))
 
-module _ (known : List ℕ → Option (Result (List ℕ) FileFault)) (folder : List ℕ) (q : Sizes) where
+module _ {F D L : Type 0} (over : filing.Ghosts F D L) (files : F) (folder : List ℕ) (q : Sizes) where
   -- the files are read as they are known to be, and so it comes; or the first that is refused is told, and then nothing is printed
   abbrev pub OfFiles : Source → Coming
   OfFiles source answer before after =
-      ((files : List NodeFiles) × AreRead known folder q.nodes files × Found q source files answer before after)
-      ⊎ ((fault : Unread) × HasUnread known folder q.nodes fault × (after ≡ before) × (answer ≡ unread_fault fault))
+      ((found : List NodeFiles) × AreRead over files folder q.nodes found × Found q source found answer before after)
+      ⊎ ((fault : Unread) × HasUnread over files folder q.nodes fault × (after ≡ before) × (answer ≡ unread_fault fault))
 
   -- the folder's lock is had, and so it comes; or its file is told, and then no other is read and nothing is printed
   abbrev pub OfLocked : Source → Coming
@@ -58,10 +59,10 @@ module _ (known : List ℕ → Option (Result (List ℕ) FileFault)) (folder : L
       OfFiles source answer before after
       ⊎ ((fault : FileFault) × (after ≡ before) × (answer ≡ unread (lock_path folder) fault))
 
--- A text that is refused is told as `build` tells it: nothing is made, and nothing printed. Else the lock's file alone may be made, and
--- nothing is put.
-abbrev pub Looked : (List ℕ → Option (Result (List ℕ) FileFault)) → (placed now_placed : Option (List Placed)) → List ℕ → Sizes → List ℕ → Coming
-Looked known placed now_placed folder q text answer before after =
-    ((fault : SourceFault) × IsUnprepared text fault × Keeps placed now_placed × (after ≡ before) × (answer ≡ build_fault (build.Source fault)))
-    ⊎ ((source : Source) × IsSourceOf text source × Makes placed now_placed (λ path. path ≡ lock_path folder)
-    × OfLocked known folder q source answer before after)
+-- Over files as they were given and as they are left. A text that is refused is told as `build` tells it: nothing is made, and nothing
+-- printed. Else the lock's file alone may be made, and nothing is put.
+abbrev pub Looked : {F D L : Type 0} → filing.Ghosts F D L → (given left : F) → (folder : List ℕ) → Sizes → (text : List ℕ) → Coming
+Looked over given left folder q text answer before after =
+    ((fault : SourceFault) × IsUnprepared text fault × Keeps (over.placed given) (over.placed left) × (after ≡ before) × (answer ≡ build_fault (build.Source fault)))
+    ⊎ ((source : Source) × IsSourceOf text source × Makes (over.placed given) (over.placed left) (λ path. path ≡ lock_path folder)
+    × OfLocked over left folder q source answer before after)

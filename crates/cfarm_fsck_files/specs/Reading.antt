@@ -1,29 +1,29 @@
 -- What the files of a folder's journals are read as.
-use Rattle.std.specs.Prelude.{◌≡◌, ◌⊎◌, ◌<◌, ℕ, List, [], length, Option, Some, Result, Ok, Err, slice_get}
+use Rattle.std.specs.Prelude.{◌≡◌, ◌⊎◌, ◌<◌, ℕ, List, [], length, Some, Ok, slice_get}
 use Rattle.std.specs.String.{string_bytes}
-use Rattle.cfarm_files.specs.Reading.{IsKnownAs}
-use Rattle.cfarm_files.specs.declared.fault.FileFault.{FileFault}
-use Rattle.cfarm_files.specs.declared.fault.FileFault.TheVariants.{Refused}
+use Rattle.cfarm_files.specs.Reading.{IsKnownAs, IsNotThere, IsRefusedThere}
+use Rattle.cfarm_files.specs.declared.files.Files as filing
 use Rattle.cfarm_fsck_journals.specs.declared.files.NodeFiles.{NodeFiles}
 use Rattle.cfarm_options.specs.Paths.{journal_path, old_journal_path}
 use Rattle.cfarm_fsck_files.specs.declared.unread.Unread.{Unread}
 use Rattle.cfarm_fsck_files.specs.declared.unread.Unread.TheVariants.{NoMemory, File}
 
-module _ (known : List ℕ → Option (Result (List ℕ) FileFault)) where
+-- over these files, of which it may be known what each is read as, and whether it is there
+module _ {F D L : Type 0} (over : filing.Ghosts F D L) (files : F) where
   -- these are the bytes of the file of this path; or none is there, and they are none
   abbrev pub IsReadAs : List ℕ → List ℕ → Type 0
-  IsReadAs path bytes = IsKnownAs (known path) (Ok bytes) ⊎ (IsKnownAs (known path) (Err Refused) × (bytes ≡ []))
+  IsReadAs path bytes = IsKnownAs (over.known files path) (Ok bytes) ⊎ (IsNotThere (over.known files path) (over.there files path) × (bytes ≡ []))
 
-  -- the file of this path is refused; that memory was says nothing
+  -- the file of this path is there and is refused; that memory was says nothing
   abbrev pub IsUnreadAt : List ℕ → Unread → Type 0
   IsUnreadAt path NoMemory = Unit {0}
-  IsUnreadAt path (File told) = (string_bytes told ≡ path) × IsKnownAs (known path) (Err Refused)
+  IsUnreadAt path (File told) = (string_bytes told ≡ path) × IsRefusedThere (over.known files path) (over.there files path)
 
   module _ (folder : List ℕ) where
     -- so it is of both files of this node
-    pub record AreOfNode (node : ℕ) (files : NodeFiles) : Type 0 where
-      pub old : IsReadAs (old_journal_path folder node) files.old.items
-      pub new : IsReadAs (journal_path folder node) files.new.items
+    pub record AreOfNode (node : ℕ) (found : NodeFiles) : Type 0 where
+      pub old : IsReadAs (old_journal_path folder node) found.old.items
+      pub new : IsReadAs (journal_path folder node) found.new.items
 
     -- the old one is refused; or it is read, and the new one is refused
     abbrev pub IsUnreadNode : ℕ → Unread → Type 0
@@ -33,7 +33,7 @@ module _ (known : List ℕ → Option (Result (List ℕ) FileFault)) where
 
     -- each is of the files of its node
     pub record AreSome (found : List NodeFiles) : Type 0 where
-      pub each : (node : ℕ) (files : NodeFiles) → slice_get found node ≡ Some files → AreOfNode node files
+      pub each : (node : ℕ) (one : NodeFiles) → slice_get found node ≡ Some one → AreOfNode node one
 
     -- there is one for each of so many nodes
     pub record AreRead (count : ℕ) (found : List NodeFiles) : Type 0 where

@@ -19,4 +19,4 @@ Tells contents errors Comes status out err = Says contents errors Comes status o
 
 -- what `fsck` of a text and a folder with these quorums comes to over these files
 abbrev pub LookedOver : {F D L : Type 0} → filing.Ghosts F D L → Changed F → (folder : List ℕ) → Sizes → (text : List ℕ) → Coming
-LookedOver over files folder q text = Looked (over.known files.exit.now) (over.placed files.entry.now) (over.placed files.exit.now) folder q text
+LookedOver over files folder q text = Looked over files.entry.now files.exit.now folder q text

@@ -93,7 +93,7 @@ fn tell_files<H: Naming, R: Threads + Wait + Sync, F: Files, W: Write, E: ErrorL
     err: &mut E,
 ) -> u8
     requires functions { length (arc_value source.now.translated).functions ≤ 64 }
-    ensures does { Tells W.contents E.contents (OfFiles (F.known files.now) folder.now quorums source.now) result out err }
+    ensures does { Tells W.contents E.contents (OfFiles F.Files files.now folder.now quorums source.now) result out err }
     ensures table { result ≤ 7 }
 {
     match read_files(alloc, folder, usize::from(quorums.nodes()), files) {
@@ -115,7 +115,7 @@ fn tell_locked<H: Naming, R: Threads + Wait + Sync, F: Files, W: Write, E: Error
     err: &mut E,
 ) -> u8
     requires functions { length (arc_value source.now.translated).functions ≤ 64 }
-    ensures does { Tells W.contents E.contents (OfLocked (F.known files.new) folder.now quorums source.now) result out err }
+    ensures does { Tells W.contents E.contents (OfLocked F.Files files.new folder.now quorums source.now) result out err }
     ensures made { Makes (F.placed files.old) (F.placed files.new) (λ path. path ≡ lock_path folder.now) }
     ensures table { result ≤ 7 }
 {

@@ -12,8 +12,8 @@ use std::alloc::Global;
 
 /// The bytes of the file of this path; none where no such file is there.
 fn read_at<F: Files>(alloc: Global, files: &F, path: String) -> Result<Vec<u8>, Unread>
-    ensures read { IfOk result (λ bytes. IsReadAs (F.known files.now) (string_bytes path) bytes.items) }
-    ensures refused { IfErr result (IsUnreadAt (F.known files.now) (string_bytes path)) }
+    ensures read { IfOk result (λ bytes. IsReadAs F.Files files.now (string_bytes path) bytes.items) }
+    ensures refused { IfErr result (IsUnreadAt F.Files files.now (string_bytes path)) }
 {
     match files.read_if_there(&path) {
         Ok(Some(bytes)) => Ok(bytes),
@@ -30,8 +30,8 @@ fn files_of<F: Files>(
     node: usize,
     files: &F,
 ) -> Result<NodeFiles, Unread>
-    ensures read { IfOk result (AreOfNode (F.known files.now) folder.now node) }
-    ensures refused { IfErr result (IsUnreadNode (F.known files.now) folder.now node) }
+    ensures read { IfOk result (AreOfNode F.Files files.now folder.now node) }
+    ensures refused { IfErr result (IsUnreadNode F.Files files.now folder.now node) }
 {
     let (Ok(path), Ok(old_path)) = (
         journal_path(alloc, folder, node),
@@ -56,8 +56,8 @@ pub(crate) fn read_files<F: Files>(
     count: usize,
     files: &F,
 ) -> Result<Vec<NodeFiles>, Unread>
-    ensures read { IfOk result (λ found. AreRead (F.known files.now) folder.now count found.items) }
-    ensures refused { IfErr result (HasUnread (F.known files.now) folder.now count) }
+    ensures read { IfOk result (λ found. AreRead F.Files files.now folder.now count found.items) }
+    ensures refused { IfErr result (HasUnread F.Files files.now folder.now count) }
 {
     let mut found = Vec::new(alloc);
     for node in 0..count {

@@ -33,5 +33,7 @@ AreRefusedIn h new old e =
 abbrev pub IsSizeOf : List Record → ℕ → Type 0
 IsSizeOf rs size = size ≡ header_size + length (blocks rs) + 1
 
+-- Where neither file has bytes the size is 0. Else it is that of the journal of these records: of the one in the new file, or of the one
+-- that migration makes of the old file where that counts.
 abbrev pub HasSize : List ℕ → List ℕ → List Record → ℕ → Type 0
-HasSize new old rs size = (HasNoFile new old × (size ≡ 0)) ⊎ IsSizeOf rs size
+HasSize new old rs size = (HasNoFile new old × (size ≡ 0)) ⊎ ((HasNoFile new old → ⊥) × IsSizeOf rs size)

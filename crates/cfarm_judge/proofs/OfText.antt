@@ -22,7 +22,7 @@ use Rattle.cfarm_judge.specs.Under.{HasNone, IsUnder}
 use Rattle.cfarm_judge.proofs.Bytes.{passed_wants}
 use Rattle.cfarm_judge.proofs.Under.{none_under, one_under}
 use Rattle.cfarm_judge.specs.Passes.{IsPassedAt}
-use Rattle.cfarm_judge.specs.Told.{begun_of, IsJudged, IsOfText, IsTold, IsWant}
+use Rattle.cfarm_judge.specs.Told.{HasSmallFunctions, begun_of, IsJudged, IsOfText, IsTold, IsWant}
 use Rattle.cfarm_judge.specs.declared.error.JudgeError.{JudgeError}
 use Rattle.cfarm_judge.specs.declared.error.JudgeError.TheVariants as judge
 
@@ -31,11 +31,14 @@ module _ (text name offer : List ℕ) (u : UnitTree) (is : IsAccepted text u) (t
   begins : begun.functions ≡ begun_of u
   begins = ap (λ p. p.functions) (made ∙ ap (λ t. gen (low t)) of)
 
+  small : HasSmallFunctions u
+  small = subst (λ t. All HasFewNodes (low t).functions) of few
+
   pub text_has_none : HasNone begun.functions name → IsTold text name offer judge.NoFunction
-  text_has_none none = (u, is, subst (λ fs. HasNone fs name) begins none)
+  text_has_none none = (u, is, small, subst (λ fs. HasNone fs name) begins none)
 
   of_text : (f : FunctionData) → IsUnder begun.functions name f → IsOfText text name offer f
-  of_text f named = record { tree = u; accepted = is; few = subst (λ t. All HasFewNodes (low t).functions) of few; named = subst (λ fs. IsUnder fs name f) begins named }
+  of_text f named = record { tree = u; accepted = is; few = small; named = subst (λ fs. IsUnder fs name f) begins named }
 
   pub judged_by : (f : FunctionData) (pass : PassNumber) → IsUnder begun.functions name f → IsPassedAt f offer pass → IsJudged text name offer pass
   judged_by f pass named passed = record { function = f; of_text = of_text f named; passed = passed }

@@ -27,12 +27,16 @@ use Rattle.cfarm_judge.specs.declared.error.JudgeError.TheVariants.{NoMemory, So
 abbrev pub begun_of : UnitTree → List (Named FunctionData)
 begun_of u = (gen (low (program_of u))).functions
 
+-- none of its functions needs too many nodes
+abbrev pub HasSmallFunctions : UnitTree → Type 0
+HasSmallFunctions u = All HasFewNodes (low (program_of u)).functions
+
 module _ (text name offer : List ℕ) where
   -- the text is accepted and has no function that needs too many nodes, and this is the RTL of its function of the name
   pub record IsOfText (f : FunctionData) : Type 0 where
     pub tree : UnitTree
     pub accepted : IsAccepted text tree
-    pub few : All HasFewNodes (low (program_of tree)).functions
+    pub few : HasSmallFunctions tree
     pub named : IsUnder (begun_of tree) name f
 
   -- The pass of this number accepts the offer. The text is accepted and has the function, and where it is pass 1, the offer's
@@ -46,7 +50,7 @@ module _ (text name offer : List ℕ) where
   abbrev pub IsTold : JudgeError → Type 0
   IsTold NoMemory = Unit {0}
   IsTold (Source fault) = IsUnprepared text fault
-  IsTold NoFunction = (u : UnitTree) × IsAccepted text u × HasNone (begun_of u) name
+  IsTold NoFunction = (u : UnitTree) × IsAccepted text u × HasSmallFunctions u × HasNone (begun_of u) name
   IsTold Write = (pass : PassNumber) × IsJudged pass
   IsTold other = (f : FunctionData) × IsOfText f × IsNotJudged f offer other
 

@@ -1,3 +1,4 @@
+pub mod Answered
 pub mod Built
 pub mod Met
 pub mod Performed

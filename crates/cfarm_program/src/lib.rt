@@ -1,4 +1,4 @@
-//! The whole program as one function, `run`: the words of a command line, files, a meter and two writers go in, and
+//! The whole program as one function, `run`: the words of a command line, files, texts for help and mistakes, a meter and two writers go in, and
 //! the exit status comes out. `main` calls it on the real ones, and tests on others. What the words ask for is
 //! `cfarm_command_line::asked_for`.
 //!
@@ -19,6 +19,8 @@
 mod performing;
 mod program;
 mod running;
+mod wording;
 
 pub use cfarm_build::Host;
 pub use program::{run, tell_no_text};
+pub use wording::{OwnWords, Wording};

@@ -1,20 +1,25 @@
 //! The whole program.
 
-ghost use Rattle.std.specs.Prelude.{◌≤◌};
+ghost use Rattle.std.specs.Prelude.{◌≢◌, ◌≤◌, IfSome, OnSome};
+ghost use Rattle.std.specs.String.{string_bytes};
 ghost use Rattle.clap.specs.Words.{kind_of};
-ghost use Rattle.cfarm_program_status.specs.Telling.{IsTold};
-ghost use Rattle.cfarm_program.specs.Runs.{IsHelp, IsHelped, IsMistake, Runs, TellsMemory, TellsMistake, no_text};
+ghost use Rattle.clap.specs.declared.error.kind.ErrorKind.TheVariants.{DisplayHelp, DisplayVersion, OutOfMemory};
+ghost use Rattle.cfarm_program_status.specs.Telling.{IsShown, IsTold};
+ghost use Rattle.cfarm_program.specs.Answered.{IsAnswerShown, IsHelp, IsHelpPrinted, IsMistakeTold};
+ghost use Rattle.cfarm_program.specs.Runs.{Runs, no_text};
 
 use crate::running::run_task;
+use crate::wording::Wording;
 use cfarm_build::{Farm, Host};
 use cfarm_command_line::asked_for;
 use cfarm_command_line_others::offered;
 use cfarm_files::Files;
 use cfarm_options::Meter;
-use cfarm_output::{ErrorLines, Paced, Unwritten};
+use cfarm_output::{ErrorLines, Paced, Unwritten, print_whole};
 use cfarm_program_status::{UNWRITTEN, tell, tell_no_memory};
 use clap::error::ErrorKind;
 use rooms_hall::Naming;
+use std::alloc::Global;
 use std::io::Write;
 use std::sync::Wait;
 use std::thread::Threads;
@@ -22,56 +27,94 @@ use std::thread::Threads;
 /// The status for the command line.
 const MISTAKEN: u8 = 2;
 
-/// Tells what is wrong with the words.
-fn tell_mistake<E: ErrorLines>(fault: &clap::Error, err: &mut E) -> u8
-    ensures mistake { IsMistake result (E.contents err.new) }
+/// Tells this text, of what is wrong with the words.
+fn tell_mistake<E: ErrorLines>(text: &str, err: &mut E) -> u8
+    ensures told { IsShown text.now 2 result (E.contents err.old) (E.contents err.new) }
     ensures table { result ≤ 7 }
 {
-    match err.text(fault) {
+    match err.text(text) {
         Ok(()) => MISTAKEN,
         Err(Unwritten) => UNWRITTEN,
     }
 }
 
-/// Prints the help that the words ask for.
-fn print_help<W: Write, E: ErrorLines>(fault: &clap::Error, out: &mut Paced<W>, err: &mut E) -> u8
-    ensures help { IsHelped result (E.contents err.old) (E.contents err.new) }
+/// Prints this text, of the help that the words ask for.
+fn print_help<W: Write, E: ErrorLines>(text: &str, out: &mut Paced<W>, err: &mut E) -> u8
+    ensures printed { IsHelpPrinted W.contents E.contents result out err text.now }
     ensures table { result ≤ 7 }
 {
-    if write!(out, "{fault}").is_err() || out.flush().is_err() {
-        return tell(err, "write 701", UNWRITTEN);
+    match print_whole(out, text.as_bytes()) {
+        Ok(()) => 0,
+        Err(_) => tell(err, "write 701", UNWRITTEN),
     }
-    0
+}
+
+/// Prints the text of an answer of this kind, or tells it.
+fn show<W: Write, E: ErrorLines>(kind: ErrorKind, text: &str, out: &mut Paced<W>, err: &mut E) -> u8
+    ensures help { IsHelp kind → IsHelpPrinted W.contents E.contents result out err text.now }
+    ensures mistake { kind ≢ DisplayHelp → kind ≢ DisplayVersion → IsMistakeTold W.contents E.contents result out err text.now }
+    ensures table { result ≤ 7 }
+{
+    match kind {
+        ErrorKind::DisplayHelp | ErrorKind::DisplayVersion => print_help(text, out, err),
+        _ => tell_mistake(text, err),
+    }
+}
+
+/// The text of an answer; none where memory was refused.
+fn text_shown<T: Wording>(alloc: Global, wording: &T, fault: &clap::Error) -> Option<String>
+    ensures text { IfSome result (λ text. T.may_show wording.now fault.now (string_bytes text)) }
+    ensures kind { OnSome result (kind_of fault.now ≢ OutOfMemory) }
+{
+    match fault.kind() {
+        ErrorKind::OutOfMemory => None,
+        _ => match wording.text_of(alloc, fault) {
+            Ok(text) => Some(text),
+            Err(_) => None,
+        },
+    }
 }
 
 /// Tells why the words ask for nothing that can be done, or prints the help that they ask for.
-fn tell_refused<W: Write, E: ErrorLines>(fault: &clap::Error, out: &mut Paced<W>, err: &mut E) -> u8
-    ensures memory { TellsMemory W.contents E.contents (kind_of fault.now) result out.old out.new err.old err.new }
-    ensures mistake { TellsMistake W.contents E.contents (kind_of fault.now) result out.old out.new err.old err.new }
-    ensures help { IsHelp (kind_of fault.now) → IsHelped result (E.contents err.old) (E.contents err.new) }
+fn tell_refused<T: Wording, W: Write, E: ErrorLines>(
+    alloc: Global,
+    wording: &T,
+    fault: &clap::Error,
+    out: &mut Paced<W>,
+    err: &mut E,
+) -> u8
+    ensures told { IsAnswerShown W.contents E.contents result out err (T.may_show wording.now) fault.now }
     ensures table { result ≤ 7 }
 {
-    match fault.kind() {
-        ErrorKind::OutOfMemory => tell_no_memory(err),
-        ErrorKind::DisplayHelp | ErrorKind::DisplayVersion => print_help(fault, out, err),
-        _ => tell_mistake(fault, err),
+    match text_shown(alloc, wording, fault) {
+        Some(text) => show(fault.kind(), text.as_str(), out, err),
+        None => tell_no_memory(err),
     }
 }
 
 /// Does what the words of a command line ask for, the first of which is the program's name: says where the quorums of a build need not
 /// meet, and else reads the file, writes the output, tells a line on standard error where there is one, and gives the exit status. The host's
-/// threads are for `settle`, `build`, `verify` and `fsck`, and `meter` shows how far a build is. `is_seen` says that
-/// a user sees standard error, where a line is then explained; whether one sees the output, the output knows.
-pub fn run<H: Naming + Send, R: Threads + Wait + Sync, F: Files, M: Meter, W: Write, E: ErrorLines>(
+/// threads are for `settle`, `build`, `verify` and `fsck`, `wording` gives the texts of help and of mistakes, and `meter` shows how far a build
+/// is. `is_seen` says that a user sees standard error, where a line is then explained; whether one sees the output, the output knows.
+pub fn run<H, R, F, T, M, W, E>(
     host: &Host<'_, H, R>,
     is_seen: bool,
     words: &[String],
     files: &mut F,
+    wording: &T,
     meter: &mut M,
     out: &mut Paced<W>,
     err: &mut E,
 ) -> u8
-    ensures does { Runs ⟦<F as Farm<H>>⟧ W.Write E.ErrorLines is_seen words.now result files out err }
+where
+    H: Naming + Send,
+    R: Threads + Wait + Sync,
+    F: Files,
+    T: Wording,
+    M: Meter,
+    W: Write,
+    E: ErrorLines,
+    ensures does { Runs ⟦<F as Farm<H>>⟧ W.Write E.ErrorLines T.Wording is_seen wording.now words.now result files out err }
     ensures table { result ≤ 7 }
 {
     let choices = offered();
@@ -80,7 +123,7 @@ pub fn run<H: Naming + Send, R: Threads + Wait + Sync, F: Files, M: Meter, W: Wr
             host, is_seen, asked.task, asked.path, files, meter, out, err,
         ),
         Ok(None) => MISTAKEN,
-        Err(fault) => tell_refused(&fault, out, err),
+        Err(fault) => tell_refused(host.alloc, wording, &fault, out, err),
     }
 }
 

@@ -1,5 +1,6 @@
 mod Answered
 pub mod Exact
 pub mod Named
+pub mod Small
 pub mod Told
 pub mod Verified

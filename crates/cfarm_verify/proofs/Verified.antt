@@ -18,12 +18,12 @@ use Rattle.bundle_reading.specs.Texts.{IsBundleOf}
 use Rattle.bundle_offers.proofs.Standings.{accepted, all_accepted, go_on}
 use Rattle.cfarm_verify.specs.Checked.{AreChecked, IsUnchecked}
 use Rattle.cfarm_verify_reading.specs.Spelled.{IsSpelled}
-use Rattle.cfarm_verify.specs.Told.{IsTold, IsVerified, rtl_of}
+use Rattle.cfarm_verify.specs.Told.{HasSmallFunctions, IsTold, IsVerified, rtl_of}
 use Rattle.cfarm_verify.specs.declared.error.VerifyError.{VerifyError}
 use Rattle.cfarm_verify.specs.declared.error.VerifyError.TheVariants as verify
 
 module _ (text program bundle : List ℕ) (u : UnitTree) (is : IsAccepted text u) (tree : ProgramTree) (of : tree ≡ program_of u)
-    (begun : Program rtl.FunctionData) (made : begun ≡ gen (low tree)) (p : Program linear.FunctionData) (spelled : IsSpelled program p)
+    (begun : Program rtl.FunctionData) (made : begun ≡ gen (low tree)) (small : HasSmallFunctions u) (p : Program linear.FunctionData) (spelled : IsSpelled program p)
     (digest : List ℕ) (offers : List Offers) (bundled : IsBundleOf bundle digest offers)
     (hash : List ℕ) (hashed : hash ≡ sha256 text) (held : List ℕ) (same : held ≡ digest) where
   begins : begun ≡ rtl_of u
@@ -53,12 +53,12 @@ module _ (text program bundle : List ℕ) (u : UnitTree) (is : IsAccepted text u
   told_of (verify.Source fault) told = absurd told
   told_of (verify.Program fault) told = absurd told
   told_of (verify.Bundle fault) told = absurd told
-  told_of verify.OtherSource told = (record { tree = u; accepted = is; linear = p; spelled = spelled; digest = digest; offers = offers; bundled = bundled }, told)
-  told_of verify.ProgramNames told = (record { tree = u; accepted = is; linear = p; spelled = spelled; digest = digest; offers = offers; bundled = bundled }, told)
-  told_of verify.BundleNames told = (record { tree = u; accepted = is; linear = p; spelled = spelled; digest = digest; offers = offers; bundled = bundled }, told)
-  told_of (verify.Offer fault name) told = (record { tree = u; accepted = is; linear = p; spelled = spelled; digest = digest; offers = offers; bundled = bundled }, told)
-  told_of (verify.OtherFunction name) told = (record { tree = u; accepted = is; linear = p; spelled = spelled; digest = digest; offers = offers; bundled = bundled }, told)
-  told_of verify.OtherGlobals told = (record { tree = u; accepted = is; linear = p; spelled = spelled; digest = digest; offers = offers; bundled = bundled }, told)
+  told_of verify.OtherSource told = (record { tree = u; accepted = is; small = small; linear = p; spelled = spelled; digest = digest; offers = offers; bundled = bundled }, told)
+  told_of verify.ProgramNames told = (record { tree = u; accepted = is; small = small; linear = p; spelled = spelled; digest = digest; offers = offers; bundled = bundled }, told)
+  told_of verify.BundleNames told = (record { tree = u; accepted = is; small = small; linear = p; spelled = spelled; digest = digest; offers = offers; bundled = bundled }, told)
+  told_of (verify.Offer fault name) told = (record { tree = u; accepted = is; small = small; linear = p; spelled = spelled; digest = digest; offers = offers; bundled = bundled }, told)
+  told_of (verify.OtherFunction name) told = (record { tree = u; accepted = is; small = small; linear = p; spelled = spelled; digest = digest; offers = offers; bundled = bundled }, told)
+  told_of verify.OtherGlobals told = (record { tree = u; accepted = is; small = small; linear = p; spelled = spelled; digest = digest; offers = offers; bundled = bundled }, told)
   told_of verify.Write told = absurd told
 
   pub unverified_by : (e : VerifyError) → IsUnchecked hash begun p held offers e → IsTold text program bundle e

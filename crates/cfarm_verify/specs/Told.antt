@@ -10,6 +10,7 @@ use Rattle.c_program.specs.Meaning.{crun}
 use Rattle.c_checker_rules.specs.Units.{program_of}
 use Rattle.c_texts.specs.Accepted.{IsAccepted}
 use Rattle.cminor_lowering.specs.Programs.{low}
+use Rattle.cfarm_verify_reading.specs.Refused.{HasFewNodes}
 use Rattle.rtlgen_definition.specs.Gen.{gen}
 use Rattle.rtl_language.specs.Function as rtl
 use Rattle.linear_language.specs.Function as linear
@@ -34,6 +35,10 @@ use Rattle.cfarm_verify.specs.declared.error.VerifyError.TheVariants.{NoMemory, 
 abbrev pub rtl_of : UnitTree → programs.Program rtl.FunctionData
 rtl_of u = gen (low (program_of u))
 
+-- none of its functions needs too many nodes
+abbrev pub HasSmallFunctions : UnitTree → Type 0
+HasSmallFunctions u = All HasFewNodes (low (program_of u)).functions
+
 module _ (text program bundle : List ℕ) where
   -- The text is accepted, and the bundle is one of this very text. Each of its offers is accepted by its pass; the first of each
   -- function begins with the text's RTL, and each other one goes on from the one before it. The program's bytes are those of the
@@ -49,14 +54,15 @@ module _ (text program bundle : List ℕ) where
     pub keeps : Keeps (crun (program_of tree)) (run (linked_offers (rtl_of tree) offers))
     pub count : functions ≡ length offers
 
-  -- the text is accepted
+  -- the text is not refused: it is accepted, and none of its functions needs too many nodes
   abbrev IsText : Type 0
-  IsText = (u : UnitTree) × IsAccepted text u
+  IsText = (u : UnitTree) × IsAccepted text u × HasSmallFunctions u
 
-  -- the text is accepted, the program is one of Linear, and the bundle is one
+  -- the text is not refused, the program is one of Linear, and the bundle is one
   pub record AreForms : Type 0 where
     pub tree : UnitTree
     pub accepted : IsAccepted text tree
+    pub small : HasSmallFunctions tree
     pub linear : programs.Program linear.FunctionData
     pub spelled : IsSpelled program linear
     pub digest : List ℕ

@@ -2,7 +2,7 @@
 
 use cfarm_files::Files;
 use cfarm_output::{ErrorWriter, Paced};
-use cfarm_program::{Host, run};
+use cfarm_program::{Host, OwnWords, run};
 use rooms_hall::{Hall, Naming};
 use std::alloc::Global;
 use std::sync::Wait;
@@ -67,6 +67,7 @@ pub fn run_over<H: Naming + Send, R: Threads + Wait + Sync, F: Files>(
         here.is_seen,
         words,
         files,
+        &OwnWords,
         &mut quiet,
         &mut out,
         &mut lines,

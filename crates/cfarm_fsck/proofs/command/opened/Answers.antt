@@ -3,9 +3,11 @@ use Rattle.std.proofs.Common.{◌≡◌, ℕ, ◌<◌, List, length, sym, ap, su
 use Rattle.std.specs.Global.{Vec}
 use Rattle.paxos_core_world.specs.KeptPart.{KeptPart}
 use Rattle.acceptor_log_form.specs.declared.record.Record.{Record}
+use Rattle.farm_nodes_open_seats.specs.Checked.{WereAccepted}
 use Rattle.farm_nodes_open_seats.specs.Nodes.{AreMade}
 use Rattle.farm_nodes_open_seats.specs.Read.{IsKeptPart}
 use Rattle.farm_nodes_open_seats.specs.Kept.{AreSettled}
+use Rattle.cfarm_fsck.proofs.Accepted.{all_accepted}
 use Rattle.cfarm_fsck.proofs.Opening.{journals_refused, rooms_refused}
 use Rattle.cfarm_fsck.proofs.command.opened.Goals as goal
 
@@ -32,5 +34,7 @@ returns-in-Ok-rooms_of-clause-opens g c =
       listed = c.in-Ok.ensures.listed;
       are_kept = subst (λ (js : List (ℕ × Vec Record)). AreMade (IsKeptPart functions (length js)) js (length js) kept) c.as_slice-before.ensures.value
           (subst (λ (n : ℕ). AreMade (IsKeptPart n (length c.as_slice-before.result.now)) c.as_slice-before.result.now (length c.as_slice-before.result.now) kept) count e.kept);
+      accepted = subst (λ (js : List (ℕ × Vec Record)). WereAccepted js (length js)) c.as_slice-before.ensures.value
+          (all_accepted c.args.quorums c.functions_of-functions.result c.as_slice-before.result.now _ e.seated);
       settled = subst (λ (n : ℕ). (f : ℕ) → f < n → AreSettled c.args.quorums kept f) count e.settled;
     }

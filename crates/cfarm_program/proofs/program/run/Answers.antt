@@ -1,6 +1,5 @@
 -- Why `run` meets its clause `does`.
 use Rattle.std.proofs.Common.{refl, inl, inr}
-use Rattle.clap.specs.Words.{kind_of}
 use Rattle.cfarm_program.proofs.Placing.{keeps_same}
 use Rattle.cfarm_program.proofs.program.run.Goals as goal
 
@@ -19,15 +18,11 @@ pub returns-in-Err-clause-does : goal.returns-in-Err-clause-does
 returns-in-Err-clause-does g c = (
   c.offered-choices.result,
   c.offered-choices.ensures,
-  inr (inl (
-    keeps_same _,
-    record {
-      kind = kind_of c.in-Err.fault;
-      among = c.in-Err.ensures.right;
-      only = c.in-Err.ensures.refused;
-      memory = c.tell_refused.ensures.memory;
-      mistake = c.tell_refused.ensures.mistake;
-      help = c.tell_refused.ensures.help;
-    },
-  )),
+  inr (inl (record {
+    keeps = keeps_same _;
+    fault = c.in-Err.fault;
+    kind = c.in-Err.ensures.right;
+    only = c.in-Err.ensures.refused;
+    answered = c.tell_refused.ensures.told;
+  })),
 )
