@@ -1,4 +1,2 @@
-pub mod Crash
-pub mod ReadBlocks
 pub mod Runs
 pub mod Ready

@@ -1,5 +1,5 @@
 -- What a log has acknowledged, from what its disk's bytes stand for.
-use Rattle.std.proofs.Common.{◌≡◌, ℕ, List, [], length, take, sym, ◌∙◌, ap, subst, append-nil}
+use Rattle.std.proofs.Common.{◌≡◌, ℕ, List, [], ◌++◌, length, take, refl, sym, ◌∙◌, ap, subst, append-nil}
 use Rattle.std.specs.Prelude.{unwrap_or}
 use Rattle.std.proofs.lemmas.List.{take_at}
 use Rattle.durable_model.specs.Honest.{Unchanged}
@@ -8,6 +8,8 @@ use Rattle.acceptor_log_form.specs.declared.record.Record.{Record}
 use Rattle.acceptor_log_form.specs.Text.{StandsFor}
 use Rattle.acceptor_log_form.specs.Reading.{listed}
 use Rattle.acceptor_log_form.specs.Lists.{Begins, Between}
+use Rattle.acceptor_log_writing.specs.OneOf.{Either}
+use Rattle.acceptor_log_writing.proofs.Either.{either-between}
 use Rattle.acceptor_log_form.proofs.Texts.{listed-stands}
 use Rattle.acceptor_log.specs.Rest.{Rests}
 
@@ -22,6 +24,10 @@ first_of-stands h xs ys bytes count stands begins counted =
 -- where the bytes are between xs and more, they are the first so many
 pub first_of-between : (h : Header) (xs more : List Record) (bytes : List ℕ) (count : ℕ) → Between h xs more bytes → count ≡ length xs → first_of h count bytes ≡ xs
 first_of-between h xs more bytes count between counted = first_of-stands h xs between.records bytes count between.stands between.all_of_low counted
+
+-- so they are where the bytes are of one of the two
+pub first_of-either : (h : Header) (xs qs : List Record) (bytes : List ℕ) (count : ℕ) → Either h xs (xs ++ qs) bytes → count ≡ length xs → first_of h count bytes ≡ xs
+first_of-either h xs qs bytes count either counted = first_of-between h xs (xs ++ qs) bytes count (either-between h xs (xs ++ qs) bytes (qs, refl) either) counted
 
 module _ {D : Type 0} (is_honest : D → Type 0) (seen : D → List ℕ) (may_leave : D → List ℕ → Type 0) (h : Header) where
   abbrev pub RestsOn : List Record → ℕ → D → Type 0

@@ -5,10 +5,11 @@ use Rattle.durable_model.specs.Honest.{Unchanged}
 use Rattle.acceptor_log_form.specs.declared.errors.LogError.{LogError}
 use Rattle.acceptor_log_form.specs.declared.errors.LogError.TheVariants.{NotAJournal, BadRecord, OtherSource}
 use Rattle.acceptor_log_form.specs.declared.record.Record.{Record}
-use Rattle.acceptor_log_form.specs.Text.{body_text}
+use Rattle.acceptor_log_form.specs.Text.{body_text, blocks}
 use Rattle.acceptor_log_form.specs.Reading.{listed}
 use Rattle.acceptor_log.specs.declared.log.Log.{Log}
-use Rattle.acceptor_log.specs.Rest.{with_record, Rests}
+use Rattle.acceptor_log_writing.specs.Written.{with_record, with_records}
+use Rattle.acceptor_log.specs.Rest.{Rests}
 
 -- The records that were listed when the journal was opened and those acknowledged since: no field, but the first of
 -- those that the bytes stand for which a read of the log's disk gives.
@@ -23,9 +24,17 @@ WhileGoing is_honest log P = is_honest log.disk → log.going ≡ true → P
 abbrev pub Adds : {D : Type 0} → (D → List ℕ) → Record → Log D → Log D → Type 0
 Adds seen r old new = acknowledged seen new ≡ acknowledged seen old ++ r ∷ []
 
+-- so many more are
+abbrev pub AddsAll : {D : Type 0} → (D → List ℕ) → List Record → Log D → Log D → Type 0
+AddsAll seen qs old new = acknowledged seen new ≡ acknowledged seen old ++ qs
+
 -- the bytes of the log's disk, once a record more is put down there
 abbrev pub text_with : {D : Type 0} → (D → List ℕ) → Log D → Record → List ℕ
 text_with seen log r = with_record (seen log.disk) log.gate r
+
+-- the same of records that are put down at once
+abbrev pub text_with_all : {D : Type 0} → (D → List ℕ) → Log D → List Record → List ℕ
+text_with_all seen log qs = with_records (seen log.disk) log.gate qs
 
 -- the log may go on: its disk rests on what it has acknowledged
 pub record IsReady {D : Type 0} (is_honest : D → Type 0) (seen : D → List ℕ) (may_leave : D → List ℕ → Type 0)
@@ -41,6 +50,10 @@ IsSound is_honest seen may_leave log =
 -- how many bytes the file has up to its closed gate, once the record is put down
 abbrev pub file_with : {D : Type 0} → Log D → Record → ℕ
 file_with log r = log.gate + 6 + length (body_text r)
+
+-- the same of records that are put down at once
+abbrev pub file_with_all : {D : Type 0} → Log D → List Record → ℕ
+file_with_all log qs = log.gate + 1 + length (blocks qs)
 
 -- a call wrote nothing, and stopped nothing
 abbrev pub IsUnwritten : {D : Type 0} → disks.Ghosts D → Log D → Log D → Type 0

@@ -1,5 +1,5 @@
 -- What a call leaves of a disk, and of a journal there.
-use Rattle.std.specs.Prelude.{◌≡◌, ℕ, ◌+◌, List, [], ◌∷◌, ◌++◌, length, Result, OnOk, IsErrOf}
+use Rattle.std.specs.Prelude.{◌≡◌, ℕ, ◌+◌, List, ◌++◌, length, Result, OnOk, IsErrOf}
 use Rattle.durable_model.specs.declared.disk.Disk as disks
 use Rattle.durable_model.specs.declared.error.DiskError.{DiskError}
 use Rattle.durable_model.specs.declared.error.DiskError.TheVariants.{NoMemory}
@@ -8,8 +8,10 @@ use Rattle.durable_model.specs.Moments.{LeavesOnly}
 use Rattle.acceptor_log_form.specs.declared.header.Header.{Header}
 use Rattle.acceptor_log_form.specs.declared.record.Record.{Record}
 use Rattle.acceptor_log_form.specs.Lists.{Between}
-use Rattle.acceptor_log.specs.declared.reading.Listed.{Listed}
-use Rattle.acceptor_log.specs.Rest.{IsBlock, MayTear, Rests}
+use Rattle.acceptor_log_writing.specs.OneOf.{Either}
+use Rattle.acceptor_log_reading.specs.declared.reading.Listed.{Listed}
+use Rattle.acceptor_log_writing.specs.Written.{AreBlocks, MayTear}
+use Rattle.acceptor_log.specs.Rest.{Rests}
 
 module _ {D : Type 0} (disk : disks.Ghosts D) where
   -- it changed nothing of the disk
@@ -32,6 +34,10 @@ module _ {D : Type 0} (disk : disks.Ghosts D) where
   abbrev pub LeavesBetween : Header → List Record → List Record → D → D → Type 0
   LeavesBetween h low high old new = LeavesOnly disk.moment disk.left_since old new (Between h low high)
 
+  -- a crash at any moment of it leaves a journal of just one of the two lists
+  abbrev pub LeavesEither : Header → List Record → List Record → D → D → Type 0
+  LeavesEither h low high old new = LeavesOnly disk.moment disk.left_since old new (Either h low high)
+
   -- the disk rests on these records, and their closed gate stands at `gate`
   abbrev pub RestsOn : Header → List Record → ℕ → D → Type 0
   RestsOn h rs gate now = Rests disk.is_honest disk.seen disk.may_leave h rs gate now
@@ -44,20 +50,20 @@ module _ {D : Type 0} (disk : disks.Ghosts D) where
   abbrev pub ForRested : Header → ℕ → ℕ → D → (List Record → Type 0) → Type 0
   ForRested h count gate now P = (rs : List Record) → count ≡ length rs → RestsOn h rs gate now → P rs
 
-  -- ---- this block is put behind the closed gate at `gate`
+  -- ---- these blocks are put behind the closed gate at `gate`
   module _ (gate : ℕ) (block : List ℕ) (old new : D) where
-    -- of each list of records that the disk rested on, and the record that it is the block of
-    abbrev pub ForBlock : (Header → List Record → Record → Type 0) → Type 0
-    ForBlock P = (h : Header) (rs : List Record) (r : Record) → RestsOn h rs gate old → IsBlock r block → P h rs r
+    -- of each list of records that the disk rested on, and those that it is the blocks of
+    abbrev pub ForBlocks : (Header → List Record → List Record → Type 0) → Type 0
+    ForBlocks P = (h : Header) (rs qs : List Record) → RestsOn h rs gate old → AreBlocks qs block → P h rs qs
 
-    -- a crash at any moment of it leaves them, with the record or without
+    -- a crash at any moment of it leaves the records before, with all of those or with none
     abbrev pub LeavesWithOrWithout : Type 0
-    LeavesWithOrWithout = ForBlock (λ h rs r. LeavesBetween h rs (rs ++ r ∷ []) old new)
+    LeavesWithOrWithout = ForBlocks (λ h rs qs. LeavesEither h rs (rs ++ qs) old new)
 
-    -- where it succeeds the disk rests on the record too
+    -- where it succeeds the disk rests on them too
     abbrev pub PutsDown : {T : Type 0} → Result T DiskError → Type 0
-    PutsDown result = ForBlock (λ h rs r. OnOk result (RestsOn h (rs ++ r ∷ []) (gate + length block) new))
+    PutsDown result = ForBlocks (λ h rs qs. OnOk result (RestsOn h (rs ++ qs) (gate + length block) new))
 
     -- where it is out of memory it changed nothing
     abbrev pub StaysUnwritten : {T : Type 0} → Result T DiskError → Type 0
-    StaysUnwritten result = ForBlock (λ h rs r. IsErrOf result NoMemory → Stays old new)
+    StaysUnwritten result = ForBlocks (λ h rs qs. IsErrOf result NoMemory → Stays old new)

@@ -4,7 +4,7 @@ ghost use Rattle.std.specs.Prelude.{◌≡◌, ◌<◌, ◌≤◌, ◌^◌, ◌�
 ghost use Rattle.durable_model.specs.Writes.{overwritten};
 ghost use Rattle.durable_model.specs.Honest.{Only, Risen};
 ghost use Rattle.acceptor_log.specs.Calls.{LeavesWithOrWithout, PutsDown, Stays, StaysUnwritten, TearsOnly, WantsMemory};
-ghost use Rattle.acceptor_log.specs.Rest.{with_block};
+ghost use Rattle.acceptor_log_writing.specs.Written.{with_block};
 
 use durable_model::{Disk, DiskError};
 
@@ -29,7 +29,7 @@ pub fn write_durably<D: Disk>(disk: &mut D, at: u64, bytes: &[u8]) -> Result<(),
     }
 }
 
-/// Writes a block behind the closed gate that stands at `gate`, and then opens the gate.
+/// Writes blocks behind the closed gate that stands at `gate`, in one write, and then opens the gate.
 pub fn put<D: Disk>(disk: &mut D, gate: u64, block: &[u8]) -> Result<(), DiskError>
     requires { gate < 2 ^ 32 }
     ensures honest { D.is_honest disk.new ↔ D.is_honest disk.old }

@@ -1,20 +1,21 @@
-ghost use Rattle.std.specs.Prelude.{◌≡◌, ◌≢◌, ◌≤◌, ◌<◌, ◌+◌, ◌↔◌, [], true, false, length, IfOk, IfErr, OnOk, OnErr};
+ghost use Rattle.std.specs.Prelude.{◌≡◌, ◌≢◌, ◌≤◌, ◌<◌, ◌↔◌, [], true, false, IfOk, IfErr, OnOk, OnErr};
 ghost use Rattle.durable_model.specs.Honest.{Risen};
-ghost use Rattle.acceptor_log_form.specs.Text.{body_text, StandsFor};
-ghost use Rattle.acceptor_log_form.specs.Fault.{IsMemoryOr};
+ghost use Rattle.acceptor_log_form.specs.Text.{StandsFor};
 ghost use Rattle.acceptor_log.specs.Calls.{ForRested, LeavesNothingNew, Stays};
 ghost use Rattle.acceptor_log.specs.Faults.{HasCauseIn, UnlessDevice};
-ghost use Rattle.acceptor_log.specs.Rest.{IsBlock, with_journal};
+ghost use Rattle.acceptor_log_writing.specs.Written.{with_journal};
 
 use crate::device::put;
 use crate::opening::{lay, load};
-use crate::reading::Listed;
-use acceptor_log_form::{HEADER_SIZE, Header, LogError, Record, record_bytes};
+use acceptor_log_form::{HEADER_SIZE, Header, LogError, Record};
+use acceptor_log_reading::Listed;
+use acceptor_log_writing::blocks_behind;
 use durable_model::{Disk, DiskError};
 use std::alloc::Global;
+use std::slice;
 
 /// A journal's file has at most so many bytes.
-pub const MOST_BYTES: u64 = 4_294_967_295;
+pub const MOST_BYTES: u64 = acceptor_log_writing::MOST_BYTES;
 
 /// The journal of one node, open on its disk.
 #[derive(Drop)]
@@ -33,8 +34,9 @@ pub struct Log<D> {
 
 impl<D: Disk> Log<D> {
     ghost use Rattle.acceptor_log.specs.Acknowledged.{acknowledged, file_with, text_with, Adds, IsReady, IsSound};
+    ghost use Rattle.acceptor_log.specs.Acknowledged.{file_with_all, text_with_all, AddsAll};
     ghost use Rattle.acceptor_log.specs.Acknowledged.{IsUnwritten, IsNoFault, WhileGoing};
-    ghost use Rattle.acceptor_log.specs.Crashes.{LeavesAddedOrNot};
+    ghost use Rattle.acceptor_log.specs.Crashes.{LeavesAddedOrNot, LeavesAllOrNone};
     ghost use Rattle.acceptor_log.specs.Disks.{OnDisk, OnOpened, OnWorkingDisk, OnWorkingOpened};
 
     /// Makes the journal with this header and no records on a disk, over what is there. Until it has answered `Ok`
@@ -147,17 +149,57 @@ impl<D: Disk> Log<D> {
             → result ≡ Err LogError.Full }
         ensures no_fault { IfErr result IsNoFault }
     {
+        self.append_all(slice::from_ref(entry))
+    }
+
+    /// Adds records, in one write and two syncs, however many they are. At `Ok` all are acknowledged: from then on each crash
+    /// leaves a journal that has them. A crash before leaves all or none. Of none it does nothing, while it goes on.
+    pub fn append_all(&mut self, entries: &[Record]) -> Result<(), LogError>
+        requires { IsSound D.is_honest D.seen D.may_leave self.old }
+        ensures sound { IsSound D.is_honest D.seen D.may_leave self.new }
+        ensures honest { D.is_honest self.new.disk ↔ D.is_honest self.old.disk }
+        ensures same { self.new.header ≡ self.old.header }
+
+        ensures added { WhileGoing D.is_honest self.old
+            (OnOk result (AddsAll D.seen entries.now self.old self.new)) }
+        ensures err { D.is_honest self.old.disk
+            → OnErr result (acknowledged D.seen self.new ≡ acknowledged D.seen self.old) }
+        ensures ok { OnOk result ((self.old.going ≡ true) × (self.new.going ≡ true)) }
+        ensures bytes { D.is_honest self.old.disk
+            → OnOk result (D.seen self.new.disk ≡ text_with_all D.seen self.old entries.now) }
+        ensures none { entries.now ≡ [] → self.old.going ≡ true → OnErr result ⊥ × (self.new ≡ self.old) }
+
+        // A crash at any moment of the call leaves what was acknowledged before it, with all the records or with none.
+        ensures any_moment { WhileGoing D.is_honest self.old (LeavesAllOrNone D.Disk entries.now self.old self.new) }
+
+        // It does not give up by itself.
+        ensures stopped { self.old.going ≡ false → (result ≡ Err LogError.Stopped) × (self.new ≡ self.old) }
+        ensures only_stopped { result ≡ Err LogError.Stopped → self.old.going ≡ false }
+        ensures stops { result ≡ Err LogError.Device → self.new.going ≡ false }
+        ensures failed { result ≡ Err LogError.Device → Risen (D.faults self.old.disk) (D.faults self.new.disk) }
+        ensures later { D.faults self.old.disk ≤ D.faults self.new.disk }
+        ensures unfailed { result ≢ Err LogError.Device → D.faults self.new.disk ≡ D.faults self.old.disk }
+        ensures unwritten { D.is_honest self.old.disk
+            → IfErr result (UnlessDevice (IsUnwritten D.Disk self.old self.new)) }
+        ensures full { result ≡ Err LogError.Full → MOST_BYTES < file_with_all self.old entries.now }
+        ensures too_long { self.old.going ≡ true → entries.now ≢ [] → MOST_BYTES < file_with_all self.old entries.now
+            → result ≡ Err LogError.Full }
+        ensures no_fault { IfErr result IsNoFault }
+    {
         if !self.going {
             return Err(LogError::Stopped);
         }
-        let block = match block_behind(self.alloc, self.gate, entry) {
+        if entries.is_empty() {
+            return Ok(());
+        }
+        let block = match blocks_behind(self.alloc, self.gate, entries) {
             Ok(block) => block,
             Err(refused) => return Err(refused),
         };
         match put(&mut self.disk, self.gate, block.as_slice()) {
             Ok(()) => {
                 self.gate += block.len() as u64;
-                self.count += 1;
+                self.count += entries.len() as u64;
                 Ok(())
             }
             Err(DiskError::NoMemory) => Err(LogError::NoMemory),
@@ -207,22 +249,4 @@ impl<D: Disk> Log<D> {
         let Log { disk, .. } = self;
         disk
     }
-}
-
-/// What is written for a record behind a gate that stands there: its block and a next gate, closed, where the file
-/// has space for it.
-fn block_behind(alloc: Global, gate: u64, entry: &Record) -> Result<Vec<u8>, LogError>
-    ensures block { IfOk result (λ block. IsBlock entry.now block.items) }
-    ensures space { IfOk result (λ block. gate + 1 + length block.items ≤ MOST_BYTES) }
-    ensures size { OnOk result (gate + 6 + length (body_text entry.now) ≤ MOST_BYTES) }
-    ensures refused { IfErr result (IsMemoryOr LogError.Full (MOST_BYTES < gate + 6 + length (body_text entry.now))) }
-    ensures full { MOST_BYTES < gate + 6 + length (body_text entry.now) → result ≡ Err LogError.Full }
-{
-    let body = entry.body_len() as u64;
-    if body > MOST_BYTES - 6 || gate > MOST_BYTES - 6 - body {
-        return Err(LogError::Full);
-    }
-    let mut block = record_bytes(alloc, entry)?;
-    block.push(0)?;
-    Ok(block)
 }

@@ -5,11 +5,11 @@ ghost use Rattle.durable_model.specs.Honest.{Risen};
 ghost use Rattle.acceptor_log_form.specs.Text.{header_size};
 ghost use Rattle.acceptor_log.specs.Calls.{LeavesNothingNew, RestsOn, RestsOnListed, Stays};
 ghost use Rattle.acceptor_log.specs.Faults.{log_fault, HasCauseIn, UnlessDevice};
-ghost use Rattle.acceptor_log.specs.Rest.{with_journal};
+ghost use Rattle.acceptor_log_writing.specs.Written.{with_journal};
 
 use crate::device::write_durably;
-use crate::reading::{Listed, read};
 use acceptor_log_form::{Header, LogError, header_bytes};
+use acceptor_log_reading::{Listed, read};
 use durable_model::{Disk, DiskError};
 use std::alloc::Global;
 

@@ -6,8 +6,8 @@ ghost use Rattle.acceptor_log_old.specs.OldText.{first_form, second_form, old_he
 ghost use Rattle.acceptor_log_old.specs.OldFault.{IsInOldForm, IsInNoOldForm, HasOldFault};
 
 use crate::header::{belongs_to_first, has_first_form, old_size};
-use acceptor_log::{Listed, begins_with, is_digest, read_records};
 use acceptor_log_form::{Header, LogError, Record};
+use acceptor_log_reading::{Listed, begins_with, is_digest, read_records};
 use std::alloc::Global;
 
 /// The records of the old journal with this header. What is refused has the fault that is told: the first one in the order

@@ -13,7 +13,7 @@ use Rattle.acceptor_log_form.specs.Text.{block_text, blocks, room_of, Fits, Fits
 use Rattle.acceptor_log_form.specs.Leaves.{kept_by, proposed_by, kept_in, proposed_in}
 use Rattle.acceptor_log_form.specs.Order.{GoesOn, MayFollow, AreInOrder}
 use Rattle.acceptor_log_form.proofs.LeavesLemmas.{left_from-own, left_from-other}
-use Rattle.acceptor_log.proofs.ReadBlocks.{one_more_read}
+use Rattle.acceptor_log_reading.proofs.ReadBlocks.{one_more_read}
 use Rattle.acceptor_log_old.specs.OldText.{is_plain, are_plain}
 use Rattle.acceptor_log_translating.specs.Noted.{IsNoted}
 use Rattle.acceptor_log_old.proofs.Plain.{plain-more}

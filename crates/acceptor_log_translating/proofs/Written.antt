@@ -7,7 +7,7 @@ use Rattle.acceptor_log_form.specs.declared.header.Header.{Header}
 use Rattle.acceptor_log_form.specs.declared.record.Record.{Record}
 use Rattle.acceptor_log_form.specs.declared.record.Record.TheVariants.{Summary}
 use Rattle.acceptor_log_form.specs.Text.{body_text, block_text, blocks, journal_text, header_text, header_size, Fits, FitsWidths}
-use Rattle.acceptor_log.proofs.Crash.{length-blocks}
+use Rattle.acceptor_log_writing.proofs.Crash.{length-blocks}
 use Rattle.paxos_core_world.specs.KeptPart.{KeptPart}
 use Rattle.acceptor_log_old.specs.Migrated.{offered, summary_of, told, of_room, migrated_below}
 use Rattle.acceptor_log_translating.specs.Translating.{IsAdded}

@@ -5,8 +5,8 @@ ghost use Rattle.acceptor_log_translating.specs.Found.{AreWidened};
 ghost use Rattle.acceptor_log_translating.specs.Noted.{IsFoundOf, AreNoRecords, IsFoundBehind, IsNoRecord, IsNoted, IsPutDown};
 
 use crate::stepping::{Room, new_room, room_after};
-use acceptor_log::{behind_open, read_first};
 use acceptor_log_form::{Header, LogError, Record};
+use acceptor_log_reading::{behind_open, read_first};
 use std::alloc::{AllocError, Global};
 
 /// What was found of the rooms that records name, by their numbers, as long as an old journal may have the records.

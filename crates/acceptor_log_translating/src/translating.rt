@@ -12,9 +12,9 @@ ghost use Rattle.acceptor_log_translating.specs.Old.{IsNotMigrated, IsTextFor};
 
 use crate::finding::{Found, find};
 use crate::stepping::Room;
-use acceptor_log::MOST_BYTES;
 use acceptor_log_form::{Header, LogError, Record, header_bytes, write_record};
 use acceptor_log_old::behind_header;
+use acceptor_log_writing::MOST_BYTES;
 use lang_base::NoMemory;
 use paxos_core_world::kept::Kept;
 use std::alloc::Global;

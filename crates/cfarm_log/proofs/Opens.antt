@@ -8,7 +8,7 @@ use Rattle.acceptor_log_form.specs.declared.errors.LogError.TheVariants.{BadReco
 use Rattle.acceptor_log_form.specs.Text.{blocks, header_size, Fits, StandsAs, StandsBehind}
 use Rattle.acceptor_log_form.specs.Reading.{block_size, first_record, in_front, records_behind}
 use Rattle.acceptor_log_form.proofs.Blocks.{records_behind-blocks, records_behind-drop}
-use Rattle.acceptor_log.proofs.ReadBlocks.{records_behind-blocks_none, records_behind-cut, records_behind-no_gate}
+use Rattle.acceptor_log_reading.proofs.ReadBlocks.{records_behind-blocks_none, records_behind-cut, records_behind-no_gate}
 use Rattle.acceptor_log_old.specs.OldText.{are_plain, is_plain, old_header_size, old_listed, plain_only}
 use Rattle.acceptor_log_old.proofs.OldTexts.{old_listed-cut, summary_none}
 use Rattle.cfarm_log.specs.declared.version.Version.{Version}

@@ -12,6 +12,7 @@ use Rattle.acceptor_log_form.specs.Leaves.{kept_in}
 use Rattle.acceptor_log_form.specs.Lists.{Between}
 use Rattle.acceptor_log_form.specs.Text.{StandsFor}
 use Rattle.acceptor_log_form.proofs.Between.{between-lists, between-no_fault}
+use Rattle.acceptor_log_writing.proofs.Either.{either-between}
 use Rattle.acceptor_log.specs.declared.log.Log.{Log}
 use Rattle.rooms_seat_state.specs.SeatState.{SeatState}
 use Rattle.rooms_crash.specs.Held.{MayHold}
@@ -111,7 +112,7 @@ module _ {D : Type 0} (disk : disks.Ghosts D) (pair : pairs.Ghosts D) (q : Sizes
   pub bytes_between : Between header upto (upto ++ pending_in seats halted) (disk.seen p)
   bytes_between =
       subst (λ (h : Header). Between h upto (upto ++ pending_in seats halted) (disk.seen p)) node.header
-      (journal.left (disk.seen p) (new_is_left log.disk (disk.seen p) node.honest left.both.0))
+      (either-between log.header upto (upto ++ pending_in seats halted) (disk.seen p) (pending_in seats halted, refl) (journal.left (disk.seen p) (new_is_left log.disk (disk.seen p) node.honest left.both.0)))
 
   pub own_spent : IsSpent (pair.old_seen p)
   own_spent = honest_spent log.disk (pair.old_seen p) node.honest left.both.1

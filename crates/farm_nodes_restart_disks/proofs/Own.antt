@@ -3,10 +3,11 @@ use Rattle.std.proofs.Common.{◌≡◌, ℕ, ◌*◌, List, [], ◌++◌, lengt
 use Rattle.std.specs.Prelude.{slice_get}
 use Rattle.acceptor_log_form.specs.declared.header.Header.{Header}
 use Rattle.acceptor_log_form.specs.declared.record.Record.{Record}
-use Rattle.acceptor_log_form.specs.Lists.{Between}
+use Rattle.acceptor_log_writing.specs.OneOf.{Either}
 use Rattle.acceptor_log_form.specs.Order.{AreInOrder}
 use Rattle.acceptor_log_form.specs.Text.{StandsFor}
 use Rattle.acceptor_log_form.proofs.Between.{between-lists, between-no_fault}
+use Rattle.acceptor_log_writing.proofs.Either.{either-between}
 use Rattle.acceptor_log.specs.declared.log.Log.{Log}
 use Rattle.farm_nodes_turn_step.specs.declared.stop.Pending.{Pending}
 use Rattle.farm_nodes_restart_node.specs.Numbers.{function_of}
@@ -41,7 +42,7 @@ module _ {T1 T2 T3 T4 : Type 0} where
   never_others texts is_honest seen may_leave log seats halted bytes rs sound honest left stands others =
       let u = sound.upto honest in
       own texts seats (room_in halted) (left_by halted) log.header u.0 rs bytes u.1.leave
-      (subst (λ (ps : List Record). Between log.header u.0 (u.0 ++ ps) bytes) (pending_left seats halted) (u.1.left bytes left))
+      (subst (λ (ps : List Record). Either log.header u.0 (u.0 ++ ps) bytes) (pending_left seats halted) (u.1.left bytes left))
       stands others
 
   module _ {D : Type 0} (texts : Texts T1 T2 T3 T4) (is_honest : D → Type 0) (seen : D → List ℕ) (may_leave : D → List ℕ → Type 0) (log : Log D) (seats : List (Four T1 T2 T3 T4))
@@ -50,7 +51,8 @@ module _ {T1 T2 T3 T4 : Type 0} where
     pub own_in_order : (rs : List Record) → StandsFor log.header rs bytes → AreInOrder log.header.nodes log.header.node (4 * length seats) rs
     own_in_order rs stands =
         let u = sound.upto honest in
-        let begins = between-lists log.header u.0 (u.0 ++ pending_in seats halted) rs bytes (u.1.left bytes left) stands in
+        let between = either-between log.header u.0 (u.0 ++ pending_in seats halted) bytes (pending_in seats halted, refl) (u.1.left bytes left) in
+        let begins = between-lists log.header u.0 (u.0 ++ pending_in seats halted) rs bytes between stands in
         front_in_order log.header.nodes log.header.node (4 * length seats) rs begins.1.0 (u.0 ++ pending_in seats halted) begins.1.1 u.1.in_order
 
     held_back : (rs : List Record) (fault : RestartFault) → StandsFor log.header rs bytes → HoldsBack texts log.header (4 * length seats) seats (room_in halted) (left_by halted) rs fault → IsOwnFault fault
@@ -65,7 +67,8 @@ module _ {T1 T2 T3 T4 : Type 0} where
     own_fault fault (inr (inl device)) = subst IsOwnFault (sym device) tt
     own_fault fault (inr (inr (inl journal))) =
         let u = sound.upto honest in
-        absurd (between-no_fault log.header u.0 (u.0 ++ pending_in seats halted) bytes journal.0 (u.1.left bytes left) journal.2)
+        let between = either-between log.header u.0 (u.0 ++ pending_in seats halted) bytes (pending_in seats halted, refl) (u.1.left bytes left) in
+        absurd (between-no_fault log.header u.0 (u.0 ++ pending_in seats halted) bytes journal.0 between journal.2)
     own_fault fault (inr (inr (inr held))) = held_back held.0 fault held.1 held.2
 
 -- where the old disk counts no more it is by the new one's bytes

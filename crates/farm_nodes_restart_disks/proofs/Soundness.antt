@@ -4,7 +4,7 @@ use Rattle.std.specs.Prelude.{slice_get}
 use Rattle.std.proofs.lemmas.Option.{slice_get_within}
 use Rattle.acceptor_log_form.specs.declared.header.Header.{Header}
 use Rattle.acceptor_log_form.specs.declared.record.Record.{Record}
-use Rattle.acceptor_log_form.specs.Lists.{Between}
+use Rattle.acceptor_log_writing.specs.OneOf.{Either}
 use Rattle.acceptor_log_form.specs.Order.{AreInOrder}
 use Rattle.acceptor_log_form.specs.Text.{StandsFor}
 use Rattle.acceptor_log.specs.declared.log.Log.{Log}
@@ -104,7 +104,7 @@ module _ {D T1 T2 T3 T4 : Type 0} (texts : Texts T1 T2 T3 T4) (is_honest : D →
                   subst (λ (l : List (Four T1 T2 T3 T4)). AreInOrder log.header.nodes log.header.node (4 * length l) (u.0 ++ pending_in new (Some stopped))) (sym same)
                   (subst (λ (ps : List Record). AreInOrder log.header.nodes log.header.node (4 * length old) (u.0 ++ ps)) here u.1.in_order);
               unproposed = subst (λ (l : List (Four T1 T2 T3 T4)). AreUnproposed l u.0) (sym same) u.1.unproposed;
-              left = λ c left. subst (λ (ps : List Record). Between log.header u.0 (u.0 ++ ps) c) here (u.1.left c left);
+              left = λ c left. subst (λ (ps : List Record). Either log.header u.0 (u.0 ++ ps) c) here (u.1.left c left);
             },
             λ none. absurd (cc),
           );

@@ -1,12 +1,11 @@
 -- What a crash leaves of a node's own journal.
-use Rattle.std.proofs.Common.{◌≡◌, ◌⊎◌, ℕ, List, [], ◌∷◌, ◌++◌, length, append-nil, append_assoc, Option, Some, None, refl, sym, ap, ◌∙◌, subst, arith, inl, inr}
+use Rattle.std.proofs.Common.{◌≡◌, ◌⊎◌, ℕ, List, [], ◌∷◌, ◌++◌, append-nil, Option, Some, None, refl, sym, ap, ◌∙◌, subst, inl, inr}
 use Rattle.std.specs.Prelude.{slice_get}
-use Rattle.std.proofs.lemmas.List.{append_cancel_left}
 use Rattle.acceptor_log_form.specs.declared.header.Header.{Header}
 use Rattle.acceptor_log_form.specs.declared.record.Record.{Record}
-use Rattle.acceptor_log_form.specs.Lists.{Begins, Between}
+use Rattle.acceptor_log_writing.specs.OneOf.{Either}
 use Rattle.acceptor_log_form.specs.Text.{StandsFor}
-use Rattle.acceptor_log_form.proofs.Between.{between-lists}
+use Rattle.acceptor_log_writing.proofs.Either.{either-lists}
 use Rattle.paxos_core_node_steps.specs.declared.step.Step.{Step}
 use Rattle.farm_nodes_turn_step.specs.Would.{would}
 use Rattle.farm_nodes_turn_step.specs.declared.stop.Pending.{Pending}
@@ -32,35 +31,23 @@ few_left (Some s) room None = inl refl
 few_left (Some s) room (Some (Act a)) = few_told room (would (words_of s (pass_of room)) a)
 few_left (Some s) room (Some (Offer r)) = inr (r, refl)
 
-split_few : (a b pending : List Record) → pending ≡ a ++ b → IsFew pending → (a ≡ []) ⊎ ((r : Record) × (pending ≡ r ∷ []) × (a ≡ r ∷ []))
-split_few [] b pending is few = inl refl
-split_few (x ∷ a) b pending is (inl none) = let long = ap length (sym none ∙ is) in absurd (omega (arith, long))
-split_few (x ∷ []) b pending is (inr one) =
-    let both : one.0 ∷ [] ≡ x ∷ b = sym one.1 ∙ is in
-    let head : one.0 ≡ x = cc in
-    inr (one.0, one.1, ap (λ (y : Record). y ∷ []) (sym head))
-split_few (x ∷ y ∷ a) b pending is (inr one) = let long = ap length (sym one.1 ∙ is) in absurd (omega (arith, long))
-
 module _ {X1 X2 X3 X4 : Type 0} (texts : Texts X1 X2 X3 X4) (seats : List (Four X1 X2 X3 X4)) (room : ℕ) (p : Option Pending) (h : Header) (upto rs : List Record) (bytes : List ℕ)
-    (leave : Leave texts seats upto) (between : Between h upto (upto ++ pending_at seats room p) bytes) (stands : StandsFor h rs bytes) (others : AreOther texts seats room p rs) where
-  begin : Begins upto rs × Begins rs (upto ++ pending_at seats room p)
-  begin = between-lists h upto (upto ++ pending_at seats room p) rs bytes between stands
-
-  behind : pending_at seats room p ≡ begin.0.0 ++ begin.1.0
-  behind =
-      append_cancel_left upto (pending_at seats room p) (begin.0.0 ++ begin.1.0)
-      (begin.1.1 ∙ (ap (λ (l : List Record). l ++ begin.1.0) begin.0.1 ∙ append_assoc upto begin.0.0 begin.1.0))
+    (leave : Leave texts seats upto) (either : Either h upto (upto ++ pending_at seats room p) bytes) (stands : StandsFor h rs bytes) (others : AreOther texts seats room p rs) where
+  -- without what is pending
+  without : rs ≡ upto → ⊥
+  without same = others.whole (subst (λ (l : List Record). Leave texts seats l) (sym same) leave)
 
   pub own : ⊥
   own =
-      elim (split_few begin.0.0 begin.1.0 (pending_at seats room p) behind (few_left (slice_get seats (function_of room)) room p)) [
-        | inl none ↦
-            let same : rs ≡ upto = begin.0.1 ∙ (ap (λ (l : List Record). upto ++ l) none ∙ append-nil upto) in
-            others.whole (subst (λ (l : List Record). Leave texts seats l) (sym same) leave)
-        | inr one ↦
-            others.pending record {
-              front = upto;
-              ends = (one.0, one.1, begin.0.1 ∙ ap (λ (l : List Record). upto ++ l) one.2);
-              leave = leave;
-            }
+      elim (either-lists h upto (upto ++ pending_at seats room p) rs bytes either stands) [
+        | inl same ↦ without same
+        | inr all ↦ elim (few_left (slice_get seats (function_of room)) room p) [
+          | inl none ↦ without (all ∙ ap (λ (l : List Record). upto ++ l) none ∙ append-nil upto)
+          | inr one ↦
+              others.pending record {
+                front = upto;
+                ends = (one.0, one.1, all ∙ ap (λ (l : List Record). upto ++ l) one.1);
+                leave = leave;
+              }
+        ]
       ]

@@ -7,6 +7,7 @@ use Rattle.durable_model.specs.Moments.{started, composed}
 use Rattle.acceptor_log_form.specs.declared.header.Header.{Header}
 use Rattle.acceptor_log_form.specs.declared.record.Record.{Record}
 use Rattle.acceptor_log_form.specs.Lists.{Begins, Between}
+use Rattle.acceptor_log_writing.proofs.Either.{either-between}
 use Rattle.acceptor_log_form.specs.Text.{StandsFor}
 use Rattle.acceptor_log.specs.declared.log.Log.{Log}
 use Rattle.acceptor_log.specs.Acknowledged.{acknowledged}
@@ -145,7 +146,8 @@ module _ {D T1 T2 T3 T4 : Type 0} (texts : Texts T1 T2 T3 T4) (is_honest : D →
     stands = stands;
     all = λ none. all;
     any_moment = started moment left_since log.disk (Between log.header (acknowledged seen log) (upto ++ pending_in seats halted))
-        (λ c left. subst (λ (l : List Record). Between log.header l (upto ++ pending_in seats halted) c) all (stands.left c (now c left)));
+        (λ c left. subst (λ (l : List Record). Between log.header l (upto ++ pending_in seats halted) c) all
+        (either-between log.header upto (upto ++ pending_in seats halted) c (pending_in seats halted, refl) (stands.left c (now c left))));
   }
 
   pub came_none : (log : Log D) (seats : List (Four T1 T2 T3 T4)) (halted : Option Halted)

@@ -7,6 +7,7 @@ use Rattle.acceptor_log_form.specs.declared.header.Header.{Header}
 use Rattle.acceptor_log_form.specs.declared.record.Record.{Record}
 use Rattle.acceptor_log_form.specs.Leaves.{kept_in}
 use Rattle.acceptor_log_form.specs.Lists.{Begins, Between}
+use Rattle.acceptor_log_writing.specs.OneOf.{Either}
 use Rattle.acceptor_log_form.specs.Order.{AreInOrder}
 use Rattle.acceptor_log.specs.declared.log.Log.{Log}
 use Rattle.acceptor_log.specs.Acknowledged.{acknowledged}
@@ -127,8 +128,8 @@ module _ {D T1 T2 T3 T4 : Type 0} (texts : Texts T1 T2 T3 T4) (seen : D → List
       in_order = in_order;
       unproposed = unproposed;
       left = λ c left.
-          subst (λ (h : Header). Between h upto (upto ++ pending_in seats halted) c) (sym header)
-          (subst (λ (p : List Record). Between old.header upto (upto ++ p) c) same (advances.left c left));
+          subst (λ (h : Header). Either h upto (upto ++ pending_in seats halted) c) (sym header)
+          (subst (λ (p : List Record). Either old.header upto (upto ++ p) c) same (advances.left c left));
     };
     all = all;
     any_moment = subst (λ (p : List Record). LeavesOnly moment left_since old.disk new.disk (Between old.header (acknowledged seen old) (upto ++ p))) same advances.any_moment;

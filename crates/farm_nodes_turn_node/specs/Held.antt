@@ -5,7 +5,7 @@ use Rattle.acceptor_log_form.specs.declared.header.Header.{Header}
 use Rattle.acceptor_log_form.specs.declared.record.Record.{Record}
 use Rattle.acceptor_log_form.specs.Leaves.{proposed_in}
 use Rattle.acceptor_log_form.specs.Order.{AreInOrder}
-use Rattle.acceptor_log_form.specs.Lists.{Between}
+use Rattle.acceptor_log_writing.specs.OneOf.{Either}
 use Rattle.acceptor_log.specs.declared.log.Log.{Log}
 use Rattle.acceptor_log.specs.Acknowledged.{acknowledged}
 use Rattle.acceptor_log.specs.Acknowledged as journal
@@ -55,7 +55,7 @@ module _ {T1 T2 T3 T4 : Type 0} where
     pub named : AreOf (4 * length seats) upto
     pub in_order : AreInOrder log.header.nodes log.header.node (4 * length seats) (upto ++ pending_in seats halted)
     pub unproposed : AreUnproposed seats upto
-    pub left : (c : List ℕ) → may_leave log.disk c → Between log.header upto (upto ++ pending_in seats halted) c
+    pub left : (c : List ℕ) → may_leave log.disk c → Either log.header upto (upto ++ pending_in seats halted) c
 
   -- A node that may be asked: its journal may be used and stands for what it keeps, its seats are its own, each of its run; where it is not stopped, the
   -- journal goes on, and has acknowledged just that.

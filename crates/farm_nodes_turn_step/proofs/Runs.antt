@@ -1,5 +1,5 @@
 -- A journal while its node acts: nothing done, one record, a record that may be missing, and one call after another.
-use Rattle.std.proofs.Common.{◌≡◌, ◌≢◌, ℕ, ◌+◌, ◌<◌, ◌≤◌, Bool, true, false, ltb, List, [], ◌∷◌, ◌++◌, length, append-nil, append_assoc, refl, sym, ap, ◌∙◌, subst, arith}
+use Rattle.std.proofs.Common.{◌≡◌, ◌≢◌, inl, ℕ, ◌+◌, ◌<◌, ◌≤◌, Bool, true, false, ltb, List, [], ◌∷◌, ◌++◌, length, append-nil, append_assoc, refl, sym, ap, ◌∙◌, subst, arith}
 use Rattle.std.proofs.lemmas.List.Elements.{All-push}
 use Rattle.paxos_core_world.specs.KeptPart.{KeptPart}
 use Rattle.paxos_core_world.specs.Quorum.{Sizes}
@@ -10,6 +10,9 @@ use Rattle.acceptor_log_form.specs.Text.{room_of, StandsFor}
 use Rattle.acceptor_log_form.specs.Leaves.{kept_by, kept_in, proposed_in}
 use Rattle.acceptor_log_form.specs.Order.{AreInOrder, GoesOn}
 use Rattle.acceptor_log_form.specs.Lists.{Begins, Between}
+use Rattle.acceptor_log_writing.specs.OneOf.{Either}
+use Rattle.acceptor_log_form.proofs.Between.{between-two}
+use Rattle.acceptor_log_writing.proofs.Either.{either-between}
 use Rattle.acceptor_log.specs.declared.log.Log.{Log}
 use Rattle.acceptor_log.specs.Acknowledged.{acknowledged, IsReady}
 use Rattle.acceptor_log.proofs.Runs.{weaker}
@@ -47,13 +50,8 @@ module _ {D : Type 0} (seen : D → List ℕ) (may_leave : D → List ℕ → Ty
   Goes old new room s t upto pending = JournalAdvances seen may_leave moment left_since old new room s t upto pending
 
   -- what a crash leaves of a journal at rest
-  rest : (is_honest : D → Type 0) (log : Log D) → IsReady is_honest seen may_leave log → (c : List ℕ) → may_leave log.disk c → Between log.header (acknowledged seen log) (acknowledged seen log ++ []) c
-  rest is_honest log ready c left = record {
-    records = acknowledged seen log;
-    stands = subst (λ (b : List ℕ). StandsFor log.header (acknowledged seen log) b) (sym (ready.rests.durable c left)) ready.rests.stands;
-    all_of_low = begins_same (acknowledged seen log);
-    none_else = ([], refl);
-  }
+  rest : (is_honest : D → Type 0) (log : Log D) → IsReady is_honest seen may_leave log → (c : List ℕ) → may_leave log.disk c → Either log.header (acknowledged seen log) (acknowledged seen log ++ []) c
+  rest is_honest log ready c left = inl (subst (λ (b : List ℕ). StandsFor log.header (acknowledged seen log) b) (sym (ready.rests.durable c left)) ready.rests.stands)
 
   -- nothing was done
   pub none : (is_honest : D → Type 0) (log : Log D) (room : ℕ) (s : SeatState) → IsReady is_honest seen may_leave log
@@ -68,7 +66,7 @@ module _ {D : Type 0} (seen : D → List ℕ) (may_leave : D → List ℕ → Ty
     quorums = refl;
     proposals = λ m other. refl;
     order = λ rooms low ordered. (ordered, nothing_pending s.node.quorums.nodes s.node.me rooms (acknowledged seen log) ordered.in_order);
-    any_moment = started moment left_since log.disk (Between log.header (acknowledged seen log) (acknowledged seen log ++ [])) (λ c left. rest is_honest log ready c (now c left));
+    any_moment = started moment left_since log.disk (Between log.header (acknowledged seen log) (acknowledged seen log ++ [])) (λ c left. either-between log.header (acknowledged seen log) (acknowledged seen log ++ []) c ([], refl) (rest is_honest log ready c (now c left)));
     left = rest is_honest log ready;
   }
 
@@ -92,7 +90,7 @@ module _ {D : Type 0} (seen : D → List ℕ) (may_leave : D → List ℕ → Ty
           (more_in_order rooms room s (acknowledged seen old) r low follows.own follows.goes ordered)),
     );
     any_moment = weaker run (λ c b. wider old.header old.header (acknowledged seen old) (acknowledged seen old ++ r ∷ []) (acknowledged seen old) (acknowledged seen new ++ []) c refl (begins_same (acknowledged seen old)) ([], more) b);
-    left = λ c left. wider new.header old.header (acknowledged seen new) (acknowledged seen new ++ []) (acknowledged seen new) (acknowledged seen new ++ []) c header (begins_same (acknowledged seen new)) (begins_same (acknowledged seen new ++ [])) (rest is_honest new ready c left);
+    left = λ c left. subst (λ (h : Header). Either h (acknowledged seen new) (acknowledged seen new ++ []) c) header (rest is_honest new ready c left);
   }
     where
       more : acknowledged seen new ++ [] ≡ (acknowledged seen old ++ r ∷ []) ++ []
@@ -114,7 +112,7 @@ module _ {D : Type 0} (seen : D → List ℕ) (may_leave : D → List ℕ → Ty
     proposals = λ m other. refl;
     order = λ rooms low ordered. (ordered, more_in_order rooms room s (acknowledged seen old) r low own goes ordered);
     any_moment = run;
-    left = λ c left. run.each c (counts c left run.later);
+    left = λ c left. between-two old.header (acknowledged seen old) r c (run.each c (counts c left run.later));
   }
 
   -- one call after another
@@ -142,7 +140,7 @@ module _ {D : Type 0} (seen : D → List ℕ) (may_leave : D → List ℕ → Ty
         (λ c b. wider old.header old.header (acknowledged seen old) (acknowledged seen mid ++ []) (acknowledged seen old) (upto ++ pending) c refl (begins_same (acknowledged seen old))
         (subst (λ (rs : List Record). Begins rs (upto ++ pending)) (sym (append-nil (acknowledged seen mid))) (begins_more (acknowledged seen mid) upto pending second.longer)) b)
         (λ c b. wider mid.header old.header (acknowledged seen mid) (upto ++ pending) (acknowledged seen old) (upto ++ pending) c header first.longer (begins_same (upto ++ pending)) b);
-    left = λ c left. wider mid.header old.header upto (upto ++ pending) upto (upto ++ pending) c header (begins_same upto) (begins_same (upto ++ pending)) (second.left c left);
+    left = λ c left. subst (λ (h : Header). Either h upto (upto ++ pending) c) header (second.left c left);
   }
 
   -- it speaks of what the seat's node is

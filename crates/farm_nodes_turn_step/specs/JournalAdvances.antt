@@ -4,6 +4,7 @@ use Rattle.durable_model.specs.Moments.{LeavesOnly}
 use Rattle.acceptor_log_form.specs.declared.record.Record.{Record}
 use Rattle.acceptor_log_form.specs.Leaves.{kept_in, proposed_in}
 use Rattle.acceptor_log_form.specs.Lists.{Begins, Between}
+use Rattle.acceptor_log_writing.specs.OneOf.{Either}
 use Rattle.acceptor_log_form.specs.Order.{AreInOrder}
 use Rattle.acceptor_log_form.specs.Text.{room_of}
 use Rattle.acceptor_log.specs.declared.log.Log.{Log}
@@ -34,4 +35,4 @@ pub record JournalAdvances {D : Type 0} (seen : D → List ℕ) (may_leave : D �
       → AreOrdered rooms room t upto × AreInOrder s.node.quorums.nodes s.node.me rooms (upto ++ pending)
   pub any_moment : LeavesOnly moment left_since old.disk new.disk
       (Between old.header (acknowledged seen old) (upto ++ pending))
-  pub left : (c : List ℕ) → may_leave new.disk c → Between old.header upto (upto ++ pending) c
+  pub left : (c : List ℕ) → may_leave new.disk c → Either old.header upto (upto ++ pending) c

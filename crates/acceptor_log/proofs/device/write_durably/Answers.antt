@@ -1,7 +1,7 @@
 -- A crash leaves what it left before, torn where the write is or not.
 use Rattle.std.proofs.Common.{inl, inr, length}
 use Rattle.durable_model.specs.Moments.{started, goes_on}
-use Rattle.acceptor_log.specs.Rest.{MayTear}
+use Rattle.acceptor_log_writing.specs.Written.{MayTear}
 use Rattle.acceptor_log.proofs.device.write_durably.Goals as goal
 
 pub returns-in-Err-clause-any_moment : goal.returns-in-Err-clause-any_moment

@@ -2,7 +2,7 @@
 use Rattle.std.proofs.Common.{◌≡◌, ℕ, List, [], ◌∷◌, ◌++◌, length, sym, ap, ◌∙◌, arith}
 use Rattle.durable_model.specs.Writes.{overwritten}
 use Rattle.acceptor_log_form.specs.Text.{header_text, header_size}
-use Rattle.acceptor_log.proofs.Crash.{stands-created}
+use Rattle.acceptor_log_writing.proofs.Crash.{stands-created}
 use Rattle.acceptor_log.proofs.opening.lay.Goals as goal
 
 pub returns-in-Ok-clause-bytes : goal.returns-in-Ok-clause-bytes

@@ -1,7 +1,7 @@
 use Rattle.std.proofs.Common.{◌≡◌, ◌+◌, ◌≤◌, length, arith}
 use Rattle.std.proofs.lemmas.Result.{IfOk-weaker}
 use Rattle.acceptor_log_form.specs.Text.{header_size, blocks}
-use Rattle.acceptor_log.proofs.Crash.{length-blocks}
+use Rattle.acceptor_log_writing.proofs.Crash.{length-blocks}
 use Rattle.acceptor_log.proofs.opening.load.Goals as goal
 
 pub returns-in-Ok-read-clause-fewer : goal.returns-in-Ok-read-clause-fewer

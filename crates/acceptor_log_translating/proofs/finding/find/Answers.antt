@@ -5,7 +5,7 @@ use Rattle.std.proofs.lemmas.List.{nil_from_length}
 use Rattle.std.proofs.lemmas.List.Elements.{All-nil}
 use Rattle.std.proofs.lemmas.Result.{err_from_is_err_and}
 use Rattle.acceptor_log_form.specs.Text.{Fits, blocks}
-use Rattle.acceptor_log.proofs.ReadBlocks.{records_behind-cut, records_behind-no_gate, stands_behind}
+use Rattle.acceptor_log_reading.proofs.ReadBlocks.{records_behind-cut, records_behind-no_gate, stands_behind}
 use Rattle.acceptor_log_translating.proofs.FoundNext.{nothing_read}
 use Rattle.acceptor_log_translating.proofs.finding.find.Goals as goal
 

@@ -2,7 +2,7 @@
 use Rattle.std.proofs.Common.{◌≡◌, ◌++◌, IfSome, true, inl, subst}
 use Rattle.std.proofs.lemmas.List.Elements.{All-push, All-same}
 use Rattle.acceptor_log_form.specs.Text.{block_text, Fits}
-use Rattle.acceptor_log.proofs.ReadBlocks.{one_more_read}
+use Rattle.acceptor_log_reading.proofs.ReadBlocks.{one_more_read}
 use Rattle.cfarm_log.specs.Forms.{has_version}
 use Rattle.cfarm_log.proofs.FrontLemmas.{at_end, gate_is, had-more, none_left, some_left}
 use Rattle.cfarm_log.proofs.front.read_front.Goals as goal

@@ -4,7 +4,7 @@ use Rattle.std.proofs.lemmas.Result.{IfOk-weaker, IfErr-weaker}
 use Rattle.acceptor_log_form.specs.Fault.{HasFault}
 use Rattle.acceptor_log_form.specs.Text.{header_size, blocks, StandsFor}
 use Rattle.acceptor_log_form.specs.declared.errors.LogError.TheVariants as fault
-use Rattle.acceptor_log.proofs.Crash.{length-blocks}
+use Rattle.acceptor_log_writing.proofs.Crash.{length-blocks}
 use Rattle.farm_nodes_open_journals.proofs.Listed.{no_device}
 use Rattle.farm_nodes_open_journals.proofs.listing.read_lent.Goals as goal
 

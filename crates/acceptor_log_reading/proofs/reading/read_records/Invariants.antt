@@ -1,7 +1,7 @@
 use Rattle.std.proofs.Common.{◌≡◌, ◌++◌, length}
 use Rattle.std.specs.Prelude.{All}
 use Rattle.acceptor_log_form.specs.Text.{blocks, Fits}
-use Rattle.acceptor_log.proofs.reading.read_records.Given as goal
+use Rattle.acceptor_log_reading.proofs.reading.read_records.Given as goal
 
 -- what was read stands in front of the rest
 abbrev pub invariant-loop-behind : goal.invariant-loop-behind

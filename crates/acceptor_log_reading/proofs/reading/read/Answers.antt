@@ -5,7 +5,7 @@ use Rattle.acceptor_log_form.specs.Text.{header_size}
 use Rattle.acceptor_log_form.specs.Fault.{HasFault}
 use Rattle.acceptor_log_form.specs.Reading.{records_behind}
 use Rattle.acceptor_log_form.proofs.Blocks.{records_behind-drop}
-use Rattle.acceptor_log.proofs.reading.read.Goals as goal
+use Rattle.acceptor_log_reading.proofs.reading.read.Goals as goal
 
 pub returns-in_err-found-clause-refused : goal.returns-in_err-found-clause-refused
 returns-in_err-found-clause-refused c =

@@ -5,8 +5,8 @@ use Rattle.std.proofs.lemmas.List.{nil_from_length}
 use Rattle.std.proofs.lemmas.List.Elements.{All-push, All-same}
 use Rattle.std.proofs.lemmas.Result.{err_from_is_err_and}
 use Rattle.acceptor_log_form.specs.Text.{Fits}
-use Rattle.acceptor_log.proofs.ReadBlocks.{records_behind-cut, records_behind-no_gate, stands_behind, one_more_read}
-use Rattle.acceptor_log.proofs.reading.read_records.Goals as goal
+use Rattle.acceptor_log_reading.proofs.ReadBlocks.{records_behind-cut, records_behind-no_gate, stands_behind, one_more_read}
+use Rattle.acceptor_log_reading.proofs.reading.read_records.Goals as goal
 
 pub returns-in_err-entry-clause-refused : goal.returns-in_err-entry-clause-refused
 returns-in_err-entry-clause-refused c =
