@@ -14,33 +14,30 @@ import tempfile
 M, ROOM, SIZES = 2**32, 14, [1, 5, 3]
 REGISTERS = "r8d r9d r10d r11d ebx ebp r12d r13d eax ecx edx esi edi".split()
 LONG = {r: r[:-1] if r[1].isdigit() else "r" + r[1:] for r in REGISTERS}
-TWO, ONE, SHIFTS, CONDITIONS = "add sub imul and or xor".split(), ["neg", "not"], ["shl", "shr", "sar"], "e ne l le b be ae".split()
+TWO, SHIFTS, CONDITIONS = "add sub imul and or xor".split(), ["shl", "shr", "sar"], "e ne l le b be ae".split()
 EDGES = [0, 1, 2, 3, 31, 32, 255, 256, 2**31 - 1, 2**31, 2**31 + 1, M - 3, M - 2, M - 1, 0x12345678, 0xDEADBEEF]
 
 
-class Stuck(Exception):
-    pass
+Stuck = type("Stuck", (Exception,), {})
 
 
 def signed(w):
     return w if w < 2**31 else w - M
 
 
-def operate(op, x, y):
-    return {"add": lambda: x + y, "sub": lambda: x - y, "imul": lambda: signed(x) * signed(y), "and": lambda: x & y, "or": lambda: x | y,
-            "xor": lambda: x ^ y, "shl": lambda: x << y, "shr": lambda: x >> y, "sar": lambda: signed(x) >> y}[op]() % M
-
-
-def holds(cc, x, y):
-    a, b = signed(x), signed(y)
-    return {"e": x == y, "ne": x != y, "l": a < b, "le": a <= b, "b": x < y, "be": x <= y, "ae": x >= y}[cc]
+OPERATED = {
+    "add": lambda x, y: x + y, "sub": lambda x, y: x - y, "imul": lambda x, y: signed(x) * signed(y), "and": lambda x, y: x & y,
+    "or": lambda x, y: x | y, "xor": lambda x, y: x ^ y, "shl": lambda x, n: x << n, "shr": lambda x, n: x >> n, "sar": lambda x, n: signed(x) >> n}
+HOLDS = {
+    "e": lambda x, y: x == y, "ne": lambda x, y: x != y, "l": lambda x, y: signed(x) < signed(y), "le": lambda x, y: signed(x) <= signed(y),
+    "b": lambda x, y: x < y, "be": lambda x, y: x <= y, "ae": lambda x, y: x >= y}
 
 
 class Run:
     """A state. Junk is None, and who reads it is Stuck, as is who reads a place to go back to."""
 
-    def __init__(self, functions, main):
-        self.functions, self.at, self.flags, self.stack, self.end = functions, (main, 0), None, [("back", None)], None
+    def __init__(self, functions):
+        self.functions, self.at, self.flags, self.stack, self.end = functions, (len(functions) - 1, 0), None, [("back", None)], None
         self.r, self.globals, self.output = dict.fromkeys(REGISTERS), [[0] * n for n in SIZES], []
 
     def known(self, answer):
@@ -50,7 +47,7 @@ class Run:
     def read(self, register): return self.known(self.r[register])
     def cell(self, k): return self.stack[k] if k < len(self.stack) and not isinstance(self.stack[k], tuple) else self.known(None)
     def cells(self, g, k): return self.globals[g] if k < len(self.globals[g]) else self.known(None)
-    def asks(self, cc): return holds(cc, *self.known(self.flags))
+    def asks(self, cc): return HOLDS[cc](*self.known(self.flags))
     def label(self, l): return (self.at[0], self.functions[self.at[0]].index(("Label", l)))
 
     def divide(self, form, divisor):
@@ -68,12 +65,12 @@ class Run:
         self.at, self.flags = (f, place + 1), None
         match i:
             case ("Do" | "DoWith", op, d, s):
-                r[d] = operate(op, self.read(d), self.read(s) if i[0] == "Do" else s)
+                r[d] = OPERATED[op](self.read(d), self.read(s) if i[0] == "Do" else s) % M
                 self.flags = (r[d], 0) if op in ("and", "or", "xor") else None
             case ("Turn", "neg", d): r[d] = -self.read(d) % M
             case ("Shift" | "ShiftBy", op, d, *count):
                 count = count[0] if count else self.read("ecx")
-                r[d] = operate(op, self.read(d), count if count < 32 else self.known(None))
+                r[d] = OPERATED[op](self.read(d), count if count < 32 else self.known(None)) % M
             case ("Divide" | "DivideU", b): self.divide(i[0], b)
             case ("Compare", a, b): self.flags = (self.read(a), self.read(b))
             case ("CompareWith", a, w): self.flags = (self.read(a), w)
@@ -160,7 +157,7 @@ def draw(rng, depth):
     cc, g, i, two, c = rng.choice(CONDITIONS), rng.randrange(len(SIZES)), rng.randrange(6), rng.choice(TWO), rng.randrange(34)
     return rng.choice([
         [("Skip",)], [("Copy", r(), r())], [("Set", r(), w())], [("Set", r(), i)], [("Take", r(), k)], [("Keep", k, r())], [("Do", two, r(), r())],
-        [("DoWith", two, r(), w())], [("Turn", rng.choice(ONE), r())], [("Shift", rng.choice(SHIFTS), r(), c)], [("Extend",)], [("Divide", r())],
+        [("DoWith", two, r(), w())], [("Turn", rng.choice(["neg", "not"]), r())], [("Shift", rng.choice(SHIFTS), r(), c)], [("Extend",)], [("Divide", r())],
         [("Set", "ecx", c), ("ShiftBy", rng.choice(SHIFTS), r())], [("Extend",), ("Divide", r())], [("Set", "edx", 0), ("DivideU", r())],
         [("Compare", r(), r())], [("CompareWith", r(), w())], [("Flag", cc, r())], [("StopIf", cc)], [("Call", rng.randrange(3))], [("Room",)],
         [("JumpIf", cc, "on"), ("Turn", "not", r()), ("Label", "on")], [("Jump", "on"), ("Turn", "neg", r()), ("Label", "on")],
@@ -172,7 +169,7 @@ def block(rng, functions, body, drawn):
     """The run of a new function: it sets all registers, does the body and so many drawn instructions that are defined, and returns."""
     main, code = len(functions), []
     functions.append(code)
-    run = Run(functions, main)
+    run = Run(functions)
 
     def does(instructions):
         label = len(code)
@@ -201,7 +198,7 @@ def fixed_bodies():
             yield from (sets + [do] + ask for do in (("Do", op, "r8d", "ebx"), ("DoWith", op, "r8d", y)))
         for cc in CONDITIONS:
             yield sets + [("Compare", "r8d", "ebx"), ("Flag", cc, "esi"), ("CompareWith", "r8d", y), ("Flag", cc, "r13d"), ("StopIf", cc)]
-        yield from (sets + [("Turn", op, "r8d")] for op in ONE)
+        yield from (sets + [("Turn", op, "r8d")] for op in ("neg", "not"))
         yield from (sets + [("Shift", op, "r8d", y % 32), ("ShiftBy", op, "ebx"), ("ShiftBy", op, "ecx")] for op in SHIFTS)
         if y and (x, y) != (2**31, M - 1): yield sets + [("Extend",), ("Divide", "ebx")]
         if y: yield sets + [("Set", "edx", 0), ("DivideU", "ebx")]

@@ -35,16 +35,20 @@ Comes Stuck before o.Stuck after = after.output ≡ before.output
 Comes step before outcome after = ⊥
 
 -- where these words are drawn from, the step from the first comes to this
-abbrev pub StepsFrom : List ℕ → (State → Step) → Running → Outcome → Running → Type 0
-StepsFrom words step before outcome after = Comes (step (state_of words before)) (state_of words before) outcome (state_of words after)
+abbrev pub StepsFrom : List ℕ → (State → Step) → Running → Running → Outcome → Type 0
+StepsFrom words step before after outcome = Comes (step (state_of words before)) (state_of words before) outcome (state_of words after)
 
 -- so it does whatever words are drawn from
 abbrev pub Steps : (State → Step) → Running → Outcome → Running → Type 0
-Steps step before outcome after = (words : List ℕ) → StepsFrom words step before outcome after
+Steps step before outcome after = (words : List ℕ) → StepsFrom words step before after outcome
+
+-- whatever words are drawn from, the state is changed so
+abbrev pub Changes : (State → State) → Running → Running → Type 0
+Changes change before after = (words : List ℕ) → state_of words after ≡ change (state_of words before)
 
 -- the run has shown this, and printed what it shows
-abbrev pub HasShown : Shows → Shown → Running → Type 0
-HasShown shows shown run = shows ≡ record { shown = shown; output = run.output.items }
+abbrev pub HasShown : Shows → Running → Shown → Type 0
+HasShown shows run shown = shows ≡ record { shown = shown; output = run.output.items }
 
 -- the instruction below has a number
 abbrev pub HasNext : Running → Type 0

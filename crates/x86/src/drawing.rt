@@ -1,10 +1,10 @@
 //! Words for what is left open.
 
-ghost use Rattle.std.specs.Prelude.{◌≡◌, ℕ, ◌%◌, List, OnOk, IfOk};
+ghost use Rattle.std.specs.Prelude.{◌≡◌, ◌%◌, OnOk, IfOk};
 ghost use Rattle.x86_state.specs.State.{rest_of, goes_on};
 ghost use Rattle.x86.specs.Framing.{with_cell, with_cells, grown};
 ghost use Rattle.x86.specs.Printing.{scrambled, all_scrambled, with_byte, printed};
-ghost use Rattle.x86.specs.Runs.{state_of, stream_of, StepsFrom, HasNext};
+ghost use Rattle.x86.specs.Runs.{state_of, stream_of, Changes, StepsFrom, HasNext};
 
 use crate::moving::go_on;
 use crate::outcome::Outcome;
@@ -70,7 +70,7 @@ fn push_cells(run: &mut Running, junk: &[u32], count: u16) -> Result<(), NoMemor
 
 pub(crate) fn grow(run: &mut Running, junk: &[u32], count: u16) -> Result<Outcome, NoMemory>
     requires { HasNext run.old }
-    ensures { IfOk result (λ outcome. StepsFrom junk.now (λ s. goes_on (grown count s)) run.old outcome run.new) }
+    ensures { IfOk result (StepsFrom junk.now (λ s. goes_on (grown count s)) run.old run.new) }
 {
     push_cells(run, junk, count)?;
     run.flags = None;
@@ -79,7 +79,7 @@ pub(crate) fn grow(run: &mut Running, junk: &[u32], count: u16) -> Result<Outcom
 
 /// Prints the low byte of a word, which eax becomes.
 fn print_low_byte(run: &mut Running, word: u32) -> Result<(), NoMemory>
-    ensures state { OnOk result ((ws : List ℕ) → state_of ws run.new ≡ with_byte (word % 256) (state_of ws run.old)) }
+    ensures state { OnOk result (Changes (with_byte (word % 256)) run.old run.new) }
     ensures place { OnOk result (run.new.place ≡ run.old.place) }
 {
     let byte = word % 256;
@@ -91,7 +91,7 @@ fn print_low_byte(run: &mut Running, word: u32) -> Result<(), NoMemory>
 /// Prints the low byte of edi.
 pub(crate) fn print(run: &mut Running, junk: &[u32]) -> Result<Outcome, NoMemory>
     requires { HasNext run.old }
-    ensures { IfOk result (λ outcome. StepsFrom junk.now (λ s. goes_on (printed s)) run.old outcome run.new) }
+    ensures { IfOk result (StepsFrom junk.now (λ s. goes_on (printed s)) run.old run.new) }
 {
     let edi = run.registers.word(Register::Edi);
     print_low_byte(run, edi)?;

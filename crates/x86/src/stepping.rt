@@ -29,7 +29,7 @@ fn perform(
     instruction: Instruction,
 ) -> Result<Outcome, NoMemory>
     requires { HasNext run.old }
-    ensures { IfOk result (λ o. StepsFrom junk.now (performs functions.now room code.now instruction) run.old o run.new) }
+    ensures { IfOk result (StepsFrom junk.now (performs functions.now room code.now instruction) run.old run.new) }
 {
     Ok(match instruction {
         Instruction::Label { .. } | Instruction::Skip => go_on(run),
@@ -89,7 +89,7 @@ pub(crate) fn step(
     junk: &[u32],
     room: Option<usize>,
 ) -> Result<Outcome, NoMemory>
-    ensures { IfOk result (λ outcome. StepsFrom junk.now (next functions.now room) run.old outcome run.new) }
+    ensures { IfOk result (StepsFrom junk.now (next functions.now room) run.old run.new) }
 {
     if run.function >= functions.len() {
         return Ok(Outcome::Stuck);

@@ -88,7 +88,7 @@ fn run_on(
     room: Option<usize>,
     limit: u64,
 ) -> Result<Shown, NoMemory>
-    ensures { IfOk result (λ s. HasShown (shows (next functions.now room) limit (state_of junk.now run.old)) s run.new) }
+    ensures { IfOk result (HasShown (shows (next functions.now room) limit (state_of junk.now run.old)) run.new) }
 {
     let mut left = limit;
     while left > 0 {

@@ -1,0 +1,10 @@
+pub mod Locations
+pub mod Kinds
+pub mod Frames
+pub mod Facts
+pub mod Operating
+pub mod Reaching
+pub mod Moving
+pub mod Blocks
+pub mod Lowering
+pub mod Layout

@@ -1,0 +1,4 @@
+pub mod Walking
+pub mod Straight
+pub mod Seen
+pub mod Growing
