@@ -10,8 +10,8 @@ mod log;
 mod opening;
 
 pub use acceptor_log_form::{
-    HEADER_SIZE, Header, LogError, Record, header_bytes, journal_bytes, no_fault,
-    one_list, read_between, record_bytes, text_stands, with_or_without,
+    HEADER_SIZE, Header, LogError, Record, header_bytes, journal_bytes, no_fault, one_list,
+    read_between, record_bytes, text_stands, with_or_without,
 };
 pub use acceptor_log_reading::{Listed, begins_with, behind_open, read, read_first};
 pub use acceptor_log_writing::{either_between, text_grows};

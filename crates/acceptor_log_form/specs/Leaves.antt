@@ -10,13 +10,13 @@ abbrev pub vote_told : ℕ × ℕ → Option (ℕ × ℕ)
 vote_told x = if x.0 == 0 then None else Some x
 
 -- the kept part once its node has put the record down; a proposal shows in no kept part
-abbrev pub kept_by : KeptPart → Record → KeptPart
-kept_by k (Offered room offer) = with_offer k
-kept_by k (Started room b) = with_start b k
-kept_by k (Proposed room b v) = k
-kept_by k (Promised room b) = with_promise b k
-kept_by k (Accepted room b v) = with_vote (vote b v) k
-kept_by k (Summary room s p x) = part k.offered s p (vote_told x)
+abbrev pub kept_by_record : KeptPart → Record → KeptPart
+kept_by_record k (Offered room offer) = with_offer k
+kept_by_record k (Started room b) = with_start b k
+kept_by_record k (Proposed room b v) = k
+kept_by_record k (Promised room b) = with_promise b k
+kept_by_record k (Accepted room b v) = with_vote (vote b v) k
+kept_by_record k (Summary room s p x) = part k.offered s p (vote_told x)
 
 -- The ballot under which the node proposed last, once it has put the record down. Under the one that a summary tells it
 -- may have proposed, so that counts as one.
@@ -32,7 +32,7 @@ left_from by before (r ∷ rs) room = left_from by (if room_of r == room then by
 
 -- the kept part of a room
 abbrev pub kept_in : List Record → ℕ → KeptPart
-kept_in rs room = left_from kept_by nothing_kept rs room
+kept_in rs room = left_from kept_by_record nothing_kept rs room
 
 -- the ballot under which the node proposed last in a room, 0 for none
 abbrev pub proposed_in : List Record → ℕ → ℕ

@@ -13,7 +13,6 @@ mod writing;
 
 pub use errors::LogError;
 pub use header::{HEADER_SIZE, Header};
-pub use lang_base::Row;
 pub use laws::{
     no_fault, one_fault, one_header, one_list, other_header, read_between, text_stands,
     with_or_without,

@@ -17,9 +17,9 @@ use Rattle.acceptor_log_migrating.specs.declared.migrating.Laid.{Laid}
 use Rattle.acceptor_log_migrating.specs.Stands.{CanMigrate, HasOld, IsMigrating, IsNotMigrated}
 
 -- the pair that comes back, with the journal or with a refusal
-abbrev pub returned : {P : Type 0} → Result (Log P) (P × LogError) → P
-returned (Ok log) = log.disk
-returned (Err refused) = refused.0
+abbrev pub disk_back : {P : Type 0} → Result (Log P) (P × LogError) → P
+disk_back (Ok log) = log.disk
+disk_back (Err refused) = refused.0
 
 -- It is a fault of the old journal, where neither the device nor memory failed.
 abbrev pub IsRefusedFor : Header → List ℕ → LogError → Type 0

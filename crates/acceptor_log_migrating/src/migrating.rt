@@ -4,7 +4,7 @@ ghost use Rattle.std.specs.Prelude.{◌≡◌, ◌≢◌, ◌<◌, ◌≤◌, �
 ghost use Rattle.durable_model.specs.Honest.{Risen};
 ghost use Rattle.acceptor_log.specs.Acknowledged.{IsReady};
 ghost use Rattle.acceptor_log.specs.Faults.{log_fault};
-ghost use Rattle.acceptor_log_migrating.specs.Moving.{returned, IsRefusedFor, IsTurned, HasMigrated, IsLaid, Moves, Stays, IsUnwritten};
+ghost use Rattle.acceptor_log_migrating.specs.Moving.{disk_back, IsRefusedFor, IsTurned, HasMigrated, IsLaid, Moves, Stays, IsUnwritten};
 
 use crate::turning::turn;
 use acceptor_log::Log;
@@ -20,14 +20,14 @@ use std::alloc::Global;
 pub fn migrate<P: Pair>(alloc: Global, pair: P, header: &Header) -> Result<Log<P>, (P, LogError)>
     requires { 0 < header.now.nodes }
     ensures ok { IfOk result (λ log. (log.going ≡ true) × (log.header ≡ header.now)) }
-    ensures whole { P.is_whole (returned result) ↔ P.is_whole pair }
+    ensures whole { P.is_whole (disk_back result) ↔ P.is_whole pair }
     // Once it has answered the pair is honest as a disk, and rests on what the old journal's records were made to.
     ensures ready { P.is_whole pair → IfOk result (IsReady P.is_honest P.seen P.may_leave) }
     ensures migrated { P.is_whole pair → IfOk result (HasMigrated P.Disk P.Pair.own header.now pair) }
     ensures turned { P.is_whole pair → IfOk result (λ log. IsTurned P.Pair.own pair log.disk) }
 
     // A crash at any moment leaves the old journal, or the new one.
-    ensures any_moment { P.is_whole pair → Moves P.Disk P.Pair.own header.now pair (returned result) }
+    ensures any_moment { P.is_whole pair → Moves P.Disk P.Pair.own header.now pair (disk_back result) }
 
     // It does not give up by itself, and what it gives up for the old journal's sake it wrote nothing for.
     ensures stays { P.is_whole pair → IfErr result (λ refused. Stays P.Disk P.Pair.own pair refused.0 refused.1) }
@@ -36,7 +36,7 @@ pub fn migrate<P: Pair>(alloc: Global, pair: P, header: &Header) -> Result<Log<P
         → IfErr result (λ refused. IsUnwritten P.Disk P.Pair.own pair refused.0 refused.1) }
     ensures failed { IfErr result (λ refused. refused.1 ≡ LogError.Device
         → Risen (P.faults pair) (P.faults refused.0)) }
-    ensures later { P.faults pair ≤ P.faults (returned result) }
+    ensures later { P.faults pair ≤ P.faults (disk_back result) }
     ensures unfailed { IfOk result (λ log. P.faults log.disk ≡ P.faults pair) }
     ensures unfailed_refused { IfErr result (λ refused. refused.1 ≢ LogError.Device
         → P.faults refused.0 ≡ P.faults pair) }

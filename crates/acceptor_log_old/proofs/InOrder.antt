@@ -7,9 +7,9 @@ use Rattle.std.proofs.lemmas.Option.{none-some, same_Some, slice_get_within}
 use Rattle.paxos_core_world.specs.KeptPart.{KeptPart, nothing_kept, with_offer}
 use Rattle.acceptor_log_form.specs.declared.record.Record.{Record}
 use Rattle.acceptor_log_form.specs.declared.record.Record.TheVariants.{Offered, Summary}
-use Rattle.acceptor_log_form.specs.Leaves.{kept_by, kept_in, left_from}
+use Rattle.acceptor_log_form.specs.Leaves.{kept_by_record, kept_in, left_from}
 use Rattle.acceptor_log_form.specs.Order.{MayFollow, AreInOrder}
-use Rattle.acceptor_log_old.specs.Migrated.{told, offer_in, summary_of, offered, migrated_below, migrated}
+use Rattle.acceptor_log_old.specs.Migrated.{told, first_offer_in, summary_of, offered, migrated_below, migrated}
 use Rattle.acceptor_log_old.proofs.Well.{IsWell, well-in_order, well-told, well-promised}
 use Rattle.acceptor_log_old.proofs.Kept.{left_from-append, below}
 
@@ -42,20 +42,20 @@ module _ (n i rooms : ℕ) where
 
 -- nothing but an offer was put down of the room
 module _ (xs : List Record) (m : ℕ) (o : Option (List ℕ)) (nothing : kept_in xs m ≡ nothing_kept) where
-  offered_alone : kept_in (xs ++ offered m o) m ≡ left_from kept_by nothing_kept (offered m o) m
-  offered_alone = left_from-append kept_by nothing_kept xs (offered m o) m ∙ ap (λ k. left_from kept_by k (offered m o) m) nothing
+  offered_alone : kept_in (xs ++ offered m o) m ≡ left_from kept_by_record nothing_kept (offered m o) m
+  offered_alone = left_from-append kept_by_record nothing_kept xs (offered m o) m ∙ ap (λ k. left_from kept_by_record k (offered m o) m) nothing
 
   nothing_started : (kept_in (xs ++ offered m o) m).started ≡ 0
   nothing_started = ap (λ k. k.started) offered_alone ∙ by o
     where
-      by : (x : Option (List ℕ)) → (left_from kept_by nothing_kept (offered m x) m).started ≡ 0
+      by : (x : Option (List ℕ)) → (left_from kept_by_record nothing_kept (offered m x) m).started ≡ 0
       by None = refl
       by (Some x) = ap (λ t. (cond t (with_offer nothing_kept) nothing_kept).started) (eq-eqb m m refl)
 
   nothing_promised : (kept_in (xs ++ offered m o) m).promised ≡ 0
   nothing_promised = ap (λ k. k.promised) offered_alone ∙ by o
     where
-      by : (x : Option (List ℕ)) → (left_from kept_by nothing_kept (offered m x) m).promised ≡ 0
+      by : (x : Option (List ℕ)) → (left_from kept_by_record nothing_kept (offered m x) m).promised ≡ 0
       by None = refl
       by (Some x) = ap (λ t. (cond t (with_offer nothing_kept) nothing_kept).promised) (eq-eqb m m refl)
 
@@ -82,7 +82,7 @@ module _ (n i rooms : ℕ) where
   below-in_order rs zero order most = in_order-nil n i rooms
   below-in_order rs (suc m) order most =
       let so_far = migrated_below rs m in
-      let o = offer_in rs m in
+      let o = first_offer_in rs m in
       let k = kept_in rs m in
       let well = well-in_order n i rooms rs order m in
       let nothing : kept_in so_far m ≡ nothing_kept = (below rs m m (well-promised n k.promised k.accepted well.1)).1 (omega arith) in

@@ -8,8 +8,8 @@ use Rattle.paxos_core_world.specs.KeptPart.{KeptPart, nothing_kept, with_offer, 
 use Rattle.acceptor_log_form.specs.declared.record.Record.{Record}
 use Rattle.acceptor_log_form.specs.declared.record.Record.TheVariants.{Offered, Started, Proposed, Promised, Accepted, Summary}
 use Rattle.acceptor_log_form.specs.Text.{room_of}
-use Rattle.acceptor_log_form.specs.Leaves.{kept_by, kept_in, left_from, vote_told}
-use Rattle.acceptor_log_old.specs.Migrated.{offer_in, told, summary_of, offered, of_room, migrated_below, migrated}
+use Rattle.acceptor_log_form.specs.Leaves.{kept_by_record, kept_in, left_from, vote_told}
+use Rattle.acceptor_log_old.specs.Migrated.{first_offer_in, told, summary_of, offered, of_room, migrated_below, migrated}
 
 pub left_from-append : {A : Type 0} (by : A → Record → A) (before : A) (xs ys : List Record) (room : ℕ) → left_from by before (xs ++ ys) room ≡ left_from by (left_from by before xs room) ys room
 left_from-append by before [] ys room = refl
@@ -20,7 +20,7 @@ cond-offered : (t : Bool) (x k : KeptPart) (b : Bool) → x.offered ≡ b → k.
 cond-offered true x k b one two = one
 cond-offered false x k b one two = two
 
-stays-offered : (rs : List Record) (k : KeptPart) (room : ℕ) → k.offered ≡ true → (left_from kept_by k rs room).offered ≡ true
+stays-offered : (rs : List Record) (k : KeptPart) (room : ℕ) → k.offered ≡ true → (left_from kept_by_record k rs room).offered ≡ true
 stays-offered [] k room is = is
 stays-offered (Offered m o ∷ rs) k room is = stays-offered rs (cond (eqb m room) (with_offer k) k) room (cond-offered (eqb m room) (with_offer k) k true refl is)
 stays-offered (Started m b ∷ rs) k room is = stays-offered rs (cond (eqb m room) (with_start b k) k) room (cond-offered (eqb m room) (with_start b k) k true is is)
@@ -37,10 +37,10 @@ none_here m room o rest is = by (eqb m room) refl is
     by true same is = absurd cc
     by false other is = (other, is)
 
-pub none-offered : (rs : List Record) (k : KeptPart) (room : ℕ) → offer_in rs room ≡ None → (left_from kept_by k rs room).offered ≡ k.offered
+pub none-offered : (rs : List Record) (k : KeptPart) (room : ℕ) → first_offer_in rs room ≡ None → (left_from kept_by_record k rs room).offered ≡ k.offered
 none-offered [] k room none = refl
 none-offered (Offered m o ∷ rs) k room none =
-    let p = none_here m room o (offer_in rs room) none in
+    let p = none_here m room o (first_offer_in rs room) none in
     none-offered rs (cond (eqb m room) (with_offer k) k) room p.1 ∙ ap (λ t. (cond t (with_offer k) k).offered) p.0
 none-offered (Started m b ∷ rs) k room none =
     none-offered rs (cond (eqb m room) (with_start b k) k) room none ∙ cond-offered (eqb m room) (with_start b k) k k.offered refl refl
@@ -53,12 +53,12 @@ none-offered (Accepted m b v ∷ rs) k room none =
 none-offered (Summary m s p x ∷ rs) k room none =
     none-offered rs (cond (eqb m room) (part k.offered s p (vote_told x)) k) room none ∙ cond-offered (eqb m room) (part k.offered s p (vote_told x)) k k.offered refl refl
 
-pub some-offered : (rs : List Record) (k : KeptPart) (room : ℕ) (offer : List ℕ) → offer_in rs room ≡ Some offer → (left_from kept_by k rs room).offered ≡ true
+pub some-offered : (rs : List Record) (k : KeptPart) (room : ℕ) (offer : List ℕ) → first_offer_in rs room ≡ Some offer → (left_from kept_by_record k rs room).offered ≡ true
 some-offered [] k room offer some = absurd cc
 some-offered (Offered m o ∷ rs) k room offer some = by (eqb m room) refl (some-offered rs (cond (eqb m room) (with_offer k) k) room offer) some
   where
-    by : (t : Bool) → eqb m room ≡ t → (offer_in rs room ≡ Some offer → (left_from kept_by (cond (eqb m room) (with_offer k) k) rs room).offered ≡ true)
-        → cond t (Some o) (offer_in rs room) ≡ Some offer → (left_from kept_by (cond (eqb m room) (with_offer k) k) rs room).offered ≡ true
+    by : (t : Bool) → eqb m room ≡ t → (first_offer_in rs room ≡ Some offer → (left_from kept_by_record (cond (eqb m room) (with_offer k) k) rs room).offered ≡ true)
+        → cond t (Some o) (first_offer_in rs room) ≡ Some offer → (left_from kept_by_record (cond (eqb m room) (with_offer k) k) rs room).offered ≡ true
     by true same later is = stays-offered rs (cond (eqb m room) (with_offer k) k) room (ap (λ t. (cond t (with_offer k) k).offered) same)
     by false other later is = later is
 some-offered (Started m b ∷ rs) k room offer some = some-offered rs (cond (eqb m room) (with_start b k) k) room offer some
@@ -68,25 +68,25 @@ some-offered (Accepted m b v ∷ rs) k room offer some = some-offered rs (cond (
 some-offered (Summary m s p x ∷ rs) k room offer some = some-offered rs (cond (eqb m room) (part k.offered s p (vote_told x)) k) room offer some
 
 -- what is put down of a room, and what that leaves of it and of others
-after_offered : (room m : ℕ) (x : Option (List ℕ)) (k : KeptPart) → room ≢ m → left_from kept_by k (offered room x) m ≡ k
+after_offered : (room m : ℕ) (x : Option (List ℕ)) (k : KeptPart) → room ≢ m → left_from kept_by_record k (offered room x) m ≡ k
 after_offered room m None k other = refl
 after_offered room m (Some o) k other = ap (λ t. cond t (with_offer k) k) (ne_eqb room m other)
 
-after_summary : (room m : ℕ) (k j : KeptPart) → room ≢ m → left_from kept_by j (summary_of room k) m ≡ j
+after_summary : (room m : ℕ) (k j : KeptPart) → room ≢ m → left_from kept_by_record j (summary_of room k) m ≡ j
 after_summary room m k j other = by (k.started == 0 && k.promised == 0)
   where
     one : Record
     one = Summary room k.started k.promised (told k.accepted)
 
-    by : (t : Bool) → left_from kept_by j (cond t [] (one ∷ [])) m ≡ j
+    by : (t : Bool) → left_from kept_by_record j (cond t [] (one ∷ [])) m ≡ j
     by true = refl
-    by false = ap (λ t. cond t (kept_by j one) j) (ne_eqb room m other)
+    by false = ap (λ t. cond t (kept_by_record j one) j) (ne_eqb room m other)
 
-pub elsewhere : (rs : List Record) (room m : ℕ) (k : KeptPart) → room ≢ m → left_from kept_by k (of_room rs room) m ≡ k
+pub elsewhere : (rs : List Record) (room m : ℕ) (k : KeptPart) → room ≢ m → left_from kept_by_record k (of_room rs room) m ≡ k
 elsewhere rs room m k other =
-    left_from-append kept_by k (offered room (offer_in rs room)) (summary_of room (kept_in rs room)) m
-    ∙ after_summary room m (kept_in rs room) (left_from kept_by k (offered room (offer_in rs room)) m) other
-    ∙ after_offered room m (offer_in rs room) k other
+    left_from-append kept_by_record k (offered room (first_offer_in rs room)) (summary_of room (kept_in rs room)) m
+    ∙ after_summary room m (kept_in rs room) (left_from kept_by_record k (offered room (first_offer_in rs room)) m) other
+    ∙ after_offered room m (first_offer_in rs room) k other
 
 -- the vote that a summary tells is the one that is kept
 told_back : (accepted : Option Vote) (p : ℕ) → IsWithinPromise p accepted → option_map (λ (x : ℕ × ℕ). vote x.0 x.1) (vote_told (told accepted)) ≡ accepted
@@ -101,33 +101,33 @@ none_kept (Some x) p within none = absurd (omega (arith, none, within.0, within.
 parts_are : (a k : KeptPart) → a.offered ≡ k.offered → a.started ≡ k.started → a.promised ≡ k.promised → a.accepted ≡ k.accepted → a ≡ k
 parts_are a k one two three four = λ i. record { offered = one i; started = two i; promised = three i; accepted = four i }
 
-offer_here : (rs : List Record) (room : ℕ) → left_from kept_by nothing_kept (offered room (offer_in rs room)) room ≡ part (kept_in rs room).offered 0 0 None
-offer_here rs room = by (offer_in rs room) refl
+offer_here : (rs : List Record) (room : ℕ) → left_from kept_by_record nothing_kept (offered room (first_offer_in rs room)) room ≡ part (kept_in rs room).offered 0 0 None
+offer_here rs room = by (first_offer_in rs room) refl
   where
-    by : (x : Option (List ℕ)) → offer_in rs room ≡ x → left_from kept_by nothing_kept (offered room x) room ≡ part (kept_in rs room).offered 0 0 None
+    by : (x : Option (List ℕ)) → first_offer_in rs room ≡ x → left_from kept_by_record nothing_kept (offered room x) room ≡ part (kept_in rs room).offered 0 0 None
     by None is = ap (λ b. part b 0 0 None) (sym (none-offered rs nothing_kept room is))
     by (Some o) is = ap (λ t. cond t (with_offer nothing_kept) nothing_kept) (eq-eqb room room refl) ∙ ap (λ b. part b 0 0 None) (sym (some-offered rs nothing_kept room o is))
 
-summary_here : (room : ℕ) (k : KeptPart) → IsWithinPromise k.promised k.accepted → left_from kept_by (part k.offered 0 0 None) (summary_of room k) room ≡ k
+summary_here : (room : ℕ) (k : KeptPart) → IsWithinPromise k.promised k.accepted → left_from kept_by_record (part k.offered 0 0 None) (summary_of room k) room ≡ k
 summary_here room k within = by (k.started == 0 && k.promised == 0) refl
   where
     one : Record
     one = Summary room k.started k.promised (told k.accepted)
 
-    by : (t : Bool) → (k.started == 0 && k.promised == 0) ≡ t → left_from kept_by (part k.offered 0 0 None) (cond t [] (one ∷ [])) room ≡ k
+    by : (t : Bool) → (k.started == 0 && k.promised == 0) ≡ t → left_from kept_by_record (part k.offered 0 0 None) (cond t [] (one ∷ [])) room ≡ k
     by true none =
         let both = and_parts (k.started == 0) (k.promised == 0) none in
         let promised : k.promised ≡ 0 = eqb-true k.promised 0 both.1 in
         parts_are (part k.offered 0 0 None) k refl (sym (eqb-true k.started 0 both.0)) (sym promised) (sym (none_kept k.accepted k.promised within promised))
     by false some =
-        ap (λ t. cond t (kept_by (part k.offered 0 0 None) one) (part k.offered 0 0 None)) (eq-eqb room room refl)
+        ap (λ t. cond t (kept_by_record (part k.offered 0 0 None) one) (part k.offered 0 0 None)) (eq-eqb room room refl)
         ∙ parts_are (part k.offered k.started k.promised (vote_told (told k.accepted))) k refl refl refl (told_back k.accepted k.promised within)
 
 pub here : (rs : List Record) (room : ℕ) → IsWithinPromise (kept_in rs room).promised (kept_in rs room).accepted
-    → left_from kept_by nothing_kept (of_room rs room) room ≡ kept_in rs room
+    → left_from kept_by_record nothing_kept (of_room rs room) room ≡ kept_in rs room
 here rs room within =
-    left_from-append kept_by nothing_kept (offered room (offer_in rs room)) (summary_of room (kept_in rs room)) room
-    ∙ ap (λ k. left_from kept_by k (summary_of room (kept_in rs room)) room) (offer_here rs room)
+    left_from-append kept_by_record nothing_kept (offered room (first_offer_in rs room)) (summary_of room (kept_in rs room)) room
+    ∙ ap (λ k. left_from kept_by_record k (summary_of room (kept_in rs room)) room) (offer_here rs room)
     ∙ summary_here room (kept_in rs room) within
 
 -- rooms below n
@@ -136,13 +136,13 @@ pub below : (rs : List Record) (n room : ℕ) → IsWithinPromise (kept_in rs ro
 below rs zero room within = (λ less. absurd (omega (arith, less)), λ more. refl)
 below rs (suc n) room within =
     let earlier = below rs n room within in
-    let step = left_from-append kept_by nothing_kept (migrated_below rs n) (of_room rs n) room in (
+    let step = left_from-append kept_by_record nothing_kept (migrated_below rs n) (of_room rs n) room in (
       λ less. elim (cases_lt room n) [
         | inl lower ↦ step ∙ elsewhere rs n room (kept_in (migrated_below rs n) room) (λ same. absurd (omega (arith, same, lower))) ∙ earlier.0 lower
         | inr not_lower ↦
             let same : n ≡ room = omega (arith, less, not_lower) in
-            step ∙ ap (λ k. left_from kept_by k (of_room rs n) room) (earlier.1 (omega (arith, same)))
-            ∙ subst (λ m. left_from kept_by nothing_kept (of_room rs m) room ≡ kept_in rs room) (sym same) (here rs room within)
+            step ∙ ap (λ k. left_from kept_by_record k (of_room rs n) room) (earlier.1 (omega (arith, same)))
+            ∙ subst (λ m. left_from kept_by_record nothing_kept (of_room rs m) room ≡ kept_in rs room) (sym same) (here rs room within)
       ],
       λ more.
           step ∙ elsewhere rs n room (kept_in (migrated_below rs n) room) (λ same. absurd (omega (arith, same, more))) ∙ earlier.1 (omega (arith, more)),

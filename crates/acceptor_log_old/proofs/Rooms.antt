@@ -9,9 +9,9 @@ use Rattle.paxos_core_world.specs.KeptPart.{nothing_kept}
 use Rattle.acceptor_log_form.specs.declared.record.Record.{Record}
 use Rattle.acceptor_log_form.specs.declared.record.Record.TheVariants.{Offered, Started, Proposed, Promised, Accepted, Summary}
 use Rattle.acceptor_log_form.specs.Text.{room_of}
-use Rattle.acceptor_log_form.specs.Leaves.{kept_by, kept_in, left_from}
+use Rattle.acceptor_log_form.specs.Leaves.{kept_by_record, kept_in, left_from}
 use Rattle.acceptor_log_form.specs.Order.{AreInOrder}
-use Rattle.acceptor_log_old.specs.Migrated.{AreOfRooms, offer_in, summary_of, offered, of_room, migrated_below, migrated}
+use Rattle.acceptor_log_old.specs.Migrated.{AreOfRooms, first_offer_in, summary_of, offered, of_room, migrated_below, migrated}
 use Rattle.acceptor_log_old.proofs.Well.{well-in_order, well-promised}
 use Rattle.acceptor_log_old.proofs.Kept.{kept-migrated}
 use Rattle.acceptor_log_old.proofs.InOrder.{below-in_order}
@@ -24,9 +24,9 @@ in_order-narrower n i rooms more rs all order k r got =
     (subst (λ x. room_of x < rooms) (get_or_from_slice_get rs k r r got) (All-get_or (λ x. room_of x < rooms) rs k r (slice_get_within rs k r got) all), (order k r got).1)
 
 module _ (rooms room : ℕ) (beyond : rooms ≤ room) where
-  pub no_offer : (rs : List Record) → AllByRecursion (λ r. room_of r < rooms) rs → offer_in rs room ≡ None
+  pub no_offer : (rs : List Record) → AllByRecursion (λ r. room_of r < rooms) rs → first_offer_in rs room ≡ None
   no_offer [] all = refl
-  no_offer (Offered m o ∷ rs) all = ap (λ t. cond t (Some o) (offer_in rs room)) (ne_eqb m room (λ same. absurd (omega (arith, same, all.0, beyond)))) ∙ no_offer rs all.1
+  no_offer (Offered m o ∷ rs) all = ap (λ t. cond t (Some o) (first_offer_in rs room)) (ne_eqb m room (λ same. absurd (omega (arith, same, all.0, beyond)))) ∙ no_offer rs all.1
   no_offer (Started m b ∷ rs) all = no_offer rs all.1
   no_offer (Proposed m b v ∷ rs) all = no_offer rs all.1
   no_offer (Promised m b ∷ rs) all = no_offer rs all.1
@@ -42,7 +42,7 @@ module _ (rooms room : ℕ) (beyond : rooms ≤ room) where
   none_put_down rs all =
       let each = recursion_from_All (λ r. room_of r < rooms) rs all in
       ap (λ o. offered room o ++ summary_of room (kept_in rs room)) (no_offer rs each)
-      ∙ ap (λ k. summary_of room k) (none_left kept_by rs nothing_kept each)
+      ∙ ap (λ k. summary_of room k) (none_left kept_by_record rs nothing_kept each)
 
 beyond_below : (rs : List Record) (rooms more : ℕ) → AreOfRooms rooms rs → migrated_below rs (more + rooms) ≡ migrated_below rs rooms
 beyond_below rs rooms zero all = let is : 0 + rooms ≡ rooms = omega arith in ap (λ (m : ℕ). migrated_below rs m) is

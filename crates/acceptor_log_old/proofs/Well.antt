@@ -11,8 +11,8 @@ use Rattle.paxos_core_world.specs.KeptPart.{KeptPart, nothing_kept, vote, IsWith
 use Rattle.acceptor_log_form.specs.declared.record.Record.{Record}
 use Rattle.acceptor_log_form.specs.declared.record.Record.TheVariants.{Offered, Started, Proposed, Promised, Accepted, Summary}
 use Rattle.acceptor_log_form.specs.Text.{room_of}
-use Rattle.acceptor_log_form.specs.Leaves.{kept_by, kept_in, proposed_in, vote_told}
-use Rattle.acceptor_log_form.specs.Order.{GoesOn, AreInOrder, IsVoteWithin}
+use Rattle.acceptor_log_form.specs.Leaves.{kept_by_record, kept_in, proposed_in, vote_told}
+use Rattle.acceptor_log_form.specs.Order.{MayFollow, AreInOrder, IsVoteWithin}
 use Rattle.acceptor_log_form.proofs.LeavesLemmas.{left_from-own, left_from-other}
 use Rattle.acceptor_log_old.specs.Migrated.{told}
 
@@ -37,7 +37,7 @@ summed n p x within = by (x.0 == 0) refl
       | inr has ↦ has
     ]
 
-goes-well : (n i : ℕ) (k : KeptPart) (proposed : ℕ) (r : Record) → IsWell n i k → GoesOn n i k proposed r → IsWell n i (kept_by k r)
+goes-well : (n i : ℕ) (k : KeptPart) (proposed : ℕ) (r : Record) → IsWell n i k → MayFollow n i k proposed r → IsWell n i (kept_by_record k r)
 goes-well n i k proposed (Offered room offer) well goes = well
 goes-well n i k proposed (Started room b) well goes = (inr goes.0, well.1)
 goes-well n i k proposed (Proposed room b v) well goes = well
@@ -54,10 +54,10 @@ module _ (n i rooms : ℕ) (rs : List Record) (order : AreInOrder n i rooms rs) 
       let are : take (k + 1) rs ≡ before ++ r ∷ [] = take_more rs k (Started 0 0) less in
       let may = order k r (slice_get-get_or rs k (Started 0 0) less) in
       elim (cases_eq (room_of r) room) [
-        | inl same ↦ subst (IsWell n i) (sym (left_from-own kept_by nothing_kept before (take (k + 1) rs) r room are same))
+        | inl same ↦ subst (IsWell n i) (sym (left_from-own kept_by_record nothing_kept before (take (k + 1) rs) r room are same))
             (goes-well n i (kept_in before room) (proposed_in before room) r well
-            (subst (λ m. GoesOn n i (kept_in before m) (proposed_in before m) r) same may.1))
-        | inr other ↦ subst (IsWell n i) (sym (left_from-other kept_by nothing_kept before (take (k + 1) rs) r room are other)) well
+            (subst (λ m. MayFollow n i (kept_in before m) (proposed_in before m) r) same may.1))
+        | inr other ↦ subst (IsWell n i) (sym (left_from-other kept_by_record nothing_kept before (take (k + 1) rs) r room are other)) well
       ]
 
   first : (k : ℕ) → k ≤ length rs → IsWell n i (kept_in (take k rs) room)

@@ -12,14 +12,14 @@ abbrev pub AreOfRooms : ℕ → List Record → Type 0
 AreOfRooms rooms rs = All (λ r. room_of r < rooms) rs
 
 -- the first offer that was put down in a room
-abbrev pub offer_in : List Record → ℕ → Option (List ℕ)
-offer_in [] room = None
-offer_in (Offered m offer ∷ rs) room = if m == room then Some offer else offer_in rs room
-offer_in (Started m b ∷ rs) room = offer_in rs room
-offer_in (Proposed m b v ∷ rs) room = offer_in rs room
-offer_in (Promised m b ∷ rs) room = offer_in rs room
-offer_in (Accepted m b v ∷ rs) room = offer_in rs room
-offer_in (Summary m s p x ∷ rs) room = offer_in rs room
+abbrev pub first_offer_in : List Record → ℕ → Option (List ℕ)
+first_offer_in [] room = None
+first_offer_in (Offered m offer ∷ rs) room = if m == room then Some offer else first_offer_in rs room
+first_offer_in (Started m b ∷ rs) room = first_offer_in rs room
+first_offer_in (Proposed m b v ∷ rs) room = first_offer_in rs room
+first_offer_in (Promised m b ∷ rs) room = first_offer_in rs room
+first_offer_in (Accepted m b v ∷ rs) room = first_offer_in rs room
+first_offer_in (Summary m s p x ∷ rs) room = first_offer_in rs room
 
 -- the vote as a summary tells it
 abbrev pub told : Option Vote → ℕ × ℕ
@@ -37,7 +37,7 @@ offered room (Some offer) = Offered room offer ∷ []
 
 -- what is put down of a room
 abbrev pub of_room : List Record → ℕ → List Record
-of_room rs room = offered room (offer_in rs room) ++ summary_of room (kept_in rs room)
+of_room rs room = offered room (first_offer_in rs room) ++ summary_of room (kept_in rs room)
 
 -- of all rooms below n, rising
 abbrev pub migrated_below : List Record → ℕ → List Record

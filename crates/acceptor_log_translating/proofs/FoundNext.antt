@@ -10,8 +10,8 @@ use Rattle.acceptor_log_form.specs.declared.header.Header.{Header}
 use Rattle.acceptor_log_form.specs.declared.record.Record.{Record}
 use Rattle.acceptor_log_form.specs.declared.record.Record.TheVariants.{Offered, Started, Proposed, Promised, Accepted, Summary}
 use Rattle.acceptor_log_form.specs.Text.{block_text, blocks, room_of, Fits, FitsWidths}
-use Rattle.acceptor_log_form.specs.Leaves.{kept_by, proposed_by, kept_in, proposed_in}
-use Rattle.acceptor_log_form.specs.Order.{GoesOn, MayFollow, AreInOrder}
+use Rattle.acceptor_log_form.specs.Leaves.{kept_by_record, proposed_by, kept_in, proposed_in}
+use Rattle.acceptor_log_form.specs.Order.{MayFollow, MayFollow, AreInOrder}
 use Rattle.acceptor_log_form.proofs.LeavesLemmas.{left_from-own, left_from-other}
 use Rattle.acceptor_log_reading.proofs.ReadBlocks.{one_more_read}
 use Rattle.acceptor_log_old.specs.OldText.{is_plain, are_plain}
@@ -19,7 +19,7 @@ use Rattle.acceptor_log_translating.specs.Noted.{IsNoted}
 use Rattle.acceptor_log_old.proofs.Plain.{plain-more}
 use Rattle.acceptor_log_translating.specs.declared.stepping.Room.{Room}
 use Rattle.acceptor_log_translating.specs.declared.finding.Found.{Found}
-use Rattle.acceptor_log_old.specs.Migrated.{AreOfRooms, offer_in, offered}
+use Rattle.acceptor_log_old.specs.Migrated.{AreOfRooms, first_offer_in, offered}
 use Rattle.acceptor_log_translating.specs.Found.{nothing_found, place_by, ArePlaced, IsFound, AreFound, AreBroken, IsBroken, AreWidened, IsFoundIn}
 use Rattle.acceptor_log_old.proofs.Offers.{or_else, or_none, offer_in-append}
 use Rattle.acceptor_log_old.proofs.Kept.{some-offered}
@@ -120,7 +120,7 @@ module _ (bytes : List ℕ) (rs : List Record) where
   unnamed rooms m named past =
       let each = recursion_from_All (λ r. room_of r < rooms) rs named in
       record {
-        kept = sym (none_left rooms m past kept_by rs nothing_kept each);
+        kept = sym (none_left rooms m past kept_by_record rs nothing_kept each);
         proposed = sym (none_left rooms m past proposed_by rs 0 each);
         offer = subst (λ o. ArePlaced bytes (offered m o) (0, 0)) (sym (no_offer rooms m past rs each))
             (record { at = record { ends = omega arith; within = omega arith }; text = refl; fits = All-nil Fits });
@@ -138,10 +138,10 @@ module _ (bytes : List ℕ) (rs : List Record) where
     ];
   }
 
-not_offered : (rs : List Record) (m : ℕ) → (kept_in rs m).offered ≡ false → offer_in rs m ≡ None
-not_offered rs m none = by (offer_in rs m) refl
+not_offered : (rs : List Record) (m : ℕ) → (kept_in rs m).offered ≡ false → first_offer_in rs m ≡ None
+not_offered rs m none = by (first_offer_in rs m) refl
   where
-    by : (o : Option (List ℕ)) → offer_in rs m ≡ o → o ≡ None
+    by : (o : Option (List ℕ)) → first_offer_in rs m ≡ o → o ≡ None
     by None is = refl
     by (Some offer) is = let some = some-offered rs nothing_kept m offer is in absurd cc
 
@@ -156,7 +156,7 @@ room_fits r fits = by r (All-head Fits r [] fits).0
     by (Accepted room b v) fit = fit.0
     by (Summary room s p x) fit = fit.0
 
-other_offer : (r : Record) (m : ℕ) → room_of r ≢ m → offer_in (r ∷ []) m ≡ None
+other_offer : (r : Record) (m : ℕ) → room_of r ≢ m → first_offer_in (r ∷ []) m ≡ None
 other_offer (Offered room o) m other = ap (λ t. cond t (Some o) None) (ne_eqb room m other)
 other_offer (Started room b) m other = refl
 other_offer (Proposed room b v) m other = refl
@@ -165,20 +165,20 @@ other_offer (Accepted room b v) m other = refl
 other_offer (Summary room s p x) m other = refl
 
 -- where a room's offer stands
-module _ (bytes : List ℕ) (rs : List Record) (m : ℕ) (was now : ℕ × ℕ) (before : ArePlaced bytes (offered m (offer_in rs m)) was) where
-  same_offer : (r : Record) → offer_in (r ∷ []) m ≡ None → ArePlaced bytes (offered m (offer_in (rs ++ r ∷ []) m)) was
+module _ (bytes : List ℕ) (rs : List Record) (m : ℕ) (was now : ℕ × ℕ) (before : ArePlaced bytes (offered m (first_offer_in rs m)) was) where
+  same_offer : (r : Record) → first_offer_in (r ∷ []) m ≡ None → ArePlaced bytes (offered m (first_offer_in (rs ++ r ∷ []) m)) was
   same_offer r none =
-      subst (λ o. ArePlaced bytes (offered m o) was) (sym (offer_in-append rs (r ∷ []) m ∙ ap (or_else (offer_in rs m)) none ∙ or_none (offer_in rs m))) before
+      subst (λ o. ArePlaced bytes (offered m o) was) (sym (offer_in-append rs (r ∷ []) m ∙ ap (or_else (first_offer_in rs m)) none ∙ or_none (first_offer_in rs m))) before
 
-  first_offer : (o : List ℕ) → offer_in rs m ≡ None → ArePlaced bytes (Offered m o ∷ []) now → ArePlaced bytes (offered m (offer_in (rs ++ Offered m o ∷ []) m)) now
+  first_offer : (o : List ℕ) → first_offer_in rs m ≡ None → ArePlaced bytes (Offered m o ∷ []) now → ArePlaced bytes (offered m (first_offer_in (rs ++ Offered m o ∷ []) m)) now
   first_offer o none here =
       subst (λ x. ArePlaced bytes (offered m x) now)
-      (sym (offer_in-append rs (Offered m o ∷ []) m ∙ ap (λ x. or_else x (offer_in (Offered m o ∷ []) m)) none ∙ ap (λ t. cond t (Some o) None) (eq-eqb m m refl))) here
+      (sym (offer_in-append rs (Offered m o ∷ []) m ∙ ap (λ x. or_else x (first_offer_in (Offered m o ∷ []) m)) none ∙ ap (λ t. cond t (Some o) None) (eq-eqb m m refl))) here
 
-  own_offer : (n i : ℕ) (kept : KeptPart) (proposed : ℕ) (r : Record) → room_of r ≡ m → kept ≡ kept_in rs m → GoesOn n i kept proposed r → ArePlaced bytes (r ∷ []) now
-      → ArePlaced bytes (offered m (offer_in (rs ++ r ∷ []) m)) (place_by was now r)
+  own_offer : (n i : ℕ) (kept : KeptPart) (proposed : ℕ) (r : Record) → room_of r ≡ m → kept ≡ kept_in rs m → MayFollow n i kept proposed r → ArePlaced bytes (r ∷ []) now
+      → ArePlaced bytes (offered m (first_offer_in (rs ++ r ∷ []) m)) (place_by was now r)
   own_offer n i kept proposed (Offered room o) own is goes here =
-      subst (λ k. ArePlaced bytes (offered m (offer_in (rs ++ Offered k o ∷ []) m)) now) (sym own)
+      subst (λ k. ArePlaced bytes (offered m (first_offer_in (rs ++ Offered k o ∷ []) m)) now) (sym own)
       (first_offer o (not_offered rs m (sym (ap (λ k. k.offered) is) ∙ goes)) (subst (λ k. ArePlaced bytes (Offered k o ∷ []) now) own here))
   own_offer n i kept proposed (Started room b) own is goes here = same_offer (Started room b) refl
   own_offer n i kept proposed (Proposed room b v) own is goes here = same_offer (Proposed room b v) refl
@@ -191,23 +191,23 @@ module _ (n i : ℕ) (bytes : List ℕ) (rs : List Record) (rooms : List Room) (
   there : k < length rooms
   there = slice_get_within rooms k x here
 
-  goes_on_here : GoesOn n i x.kept x.proposed r → MayFollow n i (2 ^ 16) rs r
+  goes_on_here : MayFollow n i x.kept x.proposed r → MayFollow n i (2 ^ 16) rs r
   goes_on_here goes =
       let found = are.each k x here in (
         omega (arith, own, there, are.most),
-        subst (λ m. GoesOn n i (kept_in rs m) (proposed_in rs m) r) own
-            (subst (λ p. GoesOn n i p (proposed_in rs k) r) found.kept (subst (λ b. GoesOn n i x.kept b r) found.proposed goes)),
+        subst (λ m. MayFollow n i (kept_in rs m) (proposed_in rs m) r) own
+            (subst (λ p. MayFollow n i p (proposed_in rs k) r) found.kept (subst (λ b. MayFollow n i x.kept b r) found.proposed goes)),
       )
 
-  pub found_next : (place : ℕ × ℕ) (next : Room) → ArePlaced bytes (r ∷ []) place → is_plain r ≡ true → GoesOn n i x.kept x.proposed r → next.kept ≡ kept_by x.kept r
+  pub found_next : (place : ℕ × ℕ) (next : Room) → ArePlaced bytes (r ∷ []) place → is_plain r ≡ true → MayFollow n i x.kept x.proposed r → next.kept ≡ kept_by_record x.kept r
       → next.proposed ≡ proposed_by x.proposed r → next.place ≡ place_by x.place place r → AreFound n i bytes (rs ++ r ∷ []) (set rooms k next)
   found_next place next placed plain goes kept proposed moved =
       let found = are.each k x here in
       let long : length (set rooms k next) ≡ length rooms = length-set rooms k next in
       let own_is : IsFound bytes (rs ++ r ∷ []) k next = record {
-        kept = kept ∙ ap (λ p. kept_by p r) found.kept ∙ sym (left_from-own kept_by nothing_kept rs (rs ++ r ∷ []) r k refl (sym own));
+        kept = kept ∙ ap (λ p. kept_by_record p r) found.kept ∙ sym (left_from-own kept_by_record nothing_kept rs (rs ++ r ∷ []) r k refl (sym own));
         proposed = proposed ∙ ap (λ b. proposed_by b r) found.proposed ∙ sym (left_from-own proposed_by 0 rs (rs ++ r ∷ []) r k refl (sym own));
-        offer = subst (ArePlaced bytes (offered k (offer_in (rs ++ r ∷ []) k))) (sym moved)
+        offer = subst (ArePlaced bytes (offered k (first_offer_in (rs ++ r ∷ []) k))) (sym moved)
             (own_offer bytes rs k x.place place found.offer n i x.kept x.proposed r (sym own) found.kept goes placed);
       } in
       record {
@@ -221,7 +221,7 @@ module _ (n i : ℕ) (bytes : List ℕ) (rs : List Record) (rooms : List Room) (
               let was = are.each m y other.1 in
               let away : room_of r ≢ m = λ bad. other.0 (sym bad ∙ sym own) in
               record {
-                kept = was.kept ∙ sym (left_from-other kept_by nothing_kept rs (rs ++ r ∷ []) r m refl away);
+                kept = was.kept ∙ sym (left_from-other kept_by_record nothing_kept rs (rs ++ r ∷ []) r m refl away);
                 proposed = was.proposed ∙ sym (left_from-other proposed_by 0 rs (rs ++ r ∷ []) r m refl away);
                 offer = same_offer bytes rs m y.place place was.offer r (other_offer r m away);
               }
@@ -232,5 +232,5 @@ module _ (n i : ℕ) (bytes : List ℕ) (rs : List Record) (rooms : List Room) (
   broken_here broken plain order =
       let found = are.each k x here in
       broken (plain_parts rs r plain).1
-      (subst (λ b. GoesOn n i x.kept b r) (sym found.proposed) (subst (λ p. GoesOn n i p (proposed_in rs k) r) (sym found.kept)
-      (subst (λ m. GoesOn n i (kept_in rs m) (proposed_in rs m) r) (sym own) (last_follows n i (2 ^ 16) rs r order).1)))
+      (subst (λ b. MayFollow n i x.kept b r) (sym found.proposed) (subst (λ p. MayFollow n i p (proposed_in rs k) r) (sym found.kept)
+      (subst (λ m. MayFollow n i (kept_in rs m) (proposed_in rs m) r) (sym own) (last_follows n i (2 ^ 16) rs r order).1)))

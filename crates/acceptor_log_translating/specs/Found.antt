@@ -5,11 +5,11 @@ use Rattle.acceptor_log_form.specs.declared.record.Record.{Record}
 use Rattle.acceptor_log_form.specs.declared.record.Record.TheVariants.{Offered, Started, Proposed, Promised, Accepted, Summary}
 use Rattle.acceptor_log_form.specs.Text.{blocks, Fits}
 use Rattle.acceptor_log_form.specs.Leaves.{kept_in, proposed_in}
-use Rattle.acceptor_log_form.specs.Order.{GoesOn, AreInOrder}
+use Rattle.acceptor_log_form.specs.Order.{MayFollow, AreInOrder}
 use Rattle.acceptor_log_old.specs.OldText.{is_plain, are_plain}
 use Rattle.acceptor_log_translating.specs.declared.stepping.Room.{Room}
 use Rattle.acceptor_log_translating.specs.declared.finding.Found.{Found}
-use Rattle.acceptor_log_old.specs.Migrated.{AreOfRooms, offer_in, offered}
+use Rattle.acceptor_log_old.specs.Migrated.{AreOfRooms, first_offer_in, offered}
 
 -- the bytes from one place up to another
 abbrev pub part_at : List ℕ → ℕ × ℕ → List ℕ
@@ -30,7 +30,7 @@ place_by was now (Summary room s p x) = was
 
 -- a record that an old journal may not have, or that does not go on from what was left of its room
 abbrev pub IsBroken : ℕ → ℕ → KeptPart → ℕ → Record → Type 0
-IsBroken n i kept proposed r = is_plain r ≡ true → GoesOn n i kept proposed r → ⊥
+IsBroken n i kept proposed r = is_plain r ≡ true → MayFollow n i kept proposed r → ⊥
 
 -- records that an old journal may not have, or that break the order
 abbrev pub AreBroken : ℕ → ℕ → List Record → Type 0
@@ -51,7 +51,7 @@ pub record ArePlaced (bytes : List ℕ) (rs : List Record) (place : ℕ × ℕ) 
 pub record IsFound (bytes : List ℕ) (rs : List Record) (m : ℕ) (x : Room) : Type 0 where
   pub kept : x.kept ≡ kept_in rs m
   pub proposed : x.proposed ≡ proposed_in rs m
-  pub offer : ArePlaced bytes (offered m (offer_in rs m)) x.place
+  pub offer : ArePlaced bytes (offered m (first_offer_in rs m)) x.place
 
 -- of each of so many rooms, by their numbers
 abbrev pub EachIsFound : List ℕ → List Record → List Room → Type 0

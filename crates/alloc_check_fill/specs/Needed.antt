@@ -14,13 +14,13 @@ abbrev pub KeepsAs : Block → Option Change → List Equation → Type 0
 KeepsAs b None es = ⊥
 KeepsAs b (Some change) es = list_any is_refused (demands b change es) ≡ false
 
-abbrev pub Keeps : Instruction → Block → List Equation → Type 0
-Keeps i b es = KeepsAs b (change_of i b.body) es
+abbrev pub KeepsEquations : Instruction → Block → List Equation → Type 0
+KeepsEquations i b es = KeepsAs b (change_of i b.body) es
 
 -- whether no rule is broken, and if so these are what is needed before the block
 abbrev pub IsNeeded : Instruction → Block → List Equation → List Equation → Bool → Type 0
-IsNeeded i b es found false = ¬ Keeps i b es
-IsNeeded i b es found true = Keeps i b es × (found ≡ needed i b es)
+IsNeeded i b es found false = ¬ KeepsEquations i b es
+IsNeeded i b es found true = KeepsEquations i b es × (found ≡ needed i b es)
 
 -- the same where it is known what the block defines
 abbrev pub IsNeededAs : Block → Change → List Equation → List Equation → List Equation → Bool → Type 0

@@ -1,5 +1,5 @@
--- What the pass accepts: an output that does with locations what the input does with registers, and for each node the
--- equations that hold there (Rideau and Leroy 2010).
+-- The rules of the pass, with a whole list of equations for each node: the output does with locations what the input does
+-- with registers (Rideau and Leroy 2010). A proposal marks rows in place of lists: alloc_check_proof.specs.Allocated.
 use Rattle.std.specs.Prelude.{◌≡◌, ◌≢◌, ◌⊎◌, ℕ, ◌<◌, ◌^◌, List, [], ◌∷◌, length, Option, Some, None, All, Contains, slice_get, slice_index_or}
 use Rattle.locations.specs.declared.location.Location.{Location}
 use Rattle.locations.specs.declared.location.Location.TheVariants.{InRegister, InSlot}
@@ -109,6 +109,6 @@ abbrev pub IsRightAt : rtl.FunctionData → ltl.FunctionData → List (List Equa
 IsRightAt input output lists n =
     (i : Instruction) (b : Block) → slice_get input.nodes n ≡ Some i → slice_get output.blocks n ≡ Some b → IsRightAs input output lists n i b
 
--- What is accepted: the form is kept, and each node keeps the rules.
+-- The form is kept, and each node keeps the rules.
 abbrev pub IsAllocated : rtl.FunctionData → ltl.FunctionData → List (List Equation) → Type 0
 IsAllocated input output lists = KeepsRules (HasShape input output lists) (IsRightAt input output lists) (length input.nodes)

@@ -16,7 +16,7 @@ use Rattle.alloc_check_rules.specs.declared.change.Change.{Change}
 use Rattle.alloc_check_rules.specs.Pairs.{change_of, successors_of}
 use Rattle.alloc_check_rules.specs.Rules.{equations_at, StandsFor, HoldsAtEntry, IsRightAs, IsRightAt}
 use Rattle.alloc_check_proof.specs.Fill.{needed, behind}
-use Rattle.alloc_check_proof.specs.Needed.{Keeps}
+use Rattle.alloc_check_proof.specs.Needed.{KeepsEquations}
 use Rattle.alloc_check_proof.specs.Sets.{SameSet}
 use Rattle.alloc_check_proof.proofs.Members.{all_members}
 use Rattle.alloc_check_proof.proofs.Carried.{needed_same}
@@ -78,7 +78,7 @@ module _ (input : rtl.FunctionData) (output : ltl.FunctionData) (rows : List (No
         same_through (needed i b found) (needed i b after) (equations_at told n) (needed_same i b o found after same)
         (same_of (needed i b after) (equations_at told n) (sym (unmarked_is unmarked)))
 
-    pub right_unmarked : is_marked input n ≡ false → (keeps : Bool) → IsTrue keeps ↔ Keeps i b found → IsTrue keeps ↔ IsRightAt input output told n
+    pub right_unmarked : is_marked input n ≡ false → (keeps : Bool) → IsTrue keeps ↔ KeepsEquations i b found → IsTrue keeps ↔ IsRightAt input output told n
     right_unmarked unmarked keeps iff = (
       λ told_so. right_read input output told n i b input.nodes output.blocks refl refl is_i is_b (record {
         entry = λ first. absurd (let impossible : true ≡ false = sym (entry_marked input) ∙ ap (is_marked input) (sym first) ∙ unmarked in cc);
@@ -88,11 +88,11 @@ module _ (input : rtl.FunctionData) (output : ltl.FunctionData) (rows : List (No
       λ right. iff.1 (keeps_same i b o after found (λ e. ((same e).1, (same e).0)) (stands_keep i b told (equations_at told n) o (right i b is_i is_b).stands)),
     )
 
-    pub right_broken : ¬ Keeps i b found → ¬ IsRightAt input output told n
+    pub right_broken : ¬ KeepsEquations i b found → ¬ IsRightAt input output told n
     right_broken broken right =
         broken (keeps_same i b o after found (λ e. ((same e).1, (same e).0)) (stands_keep i b told (equations_at told n) o (right i b is_i is_b).stands))
 
-    pub right_marked : Keeps i b found → (row : List Equation) → row ≡ equations_at told n → (enough : Bool) → IsTrue enough ↔ (BeginsRight input output n row × All (Contains row) (needed i b found)) → IsTrue enough ↔ IsRightAt input output told n
+    pub right_marked : KeepsEquations i b found → (row : List Equation) → row ≡ equations_at told n → (enough : Bool) → IsTrue enough ↔ (BeginsRight input output n row × All (Contains row) (needed i b found)) → IsTrue enough ↔ IsRightAt input output told n
     right_marked keeps row is enough iff = (
       λ told_so.
           let parts = iff.0 told_so in

@@ -11,7 +11,7 @@ ghost use Rattle.rtl_passes_marks.specs.Marks.{AreFeeders, IsMarked};
 ghost use Rattle.alloc_check_rules.specs.Pairs.{successors_of};
 ghost use Rattle.alloc_check_rules.specs.Rules.{equations_at, IsRightAt};
 ghost use Rattle.alloc_check_proof.specs.Fill.{behind, needed};
-ghost use Rattle.alloc_check_proof.specs.Needed.{Keeps};
+ghost use Rattle.alloc_check_proof.specs.Needed.{KeepsEquations};
 ghost use Rattle.alloc_check_proof.specs.Sets.{SameSet};
 ghost use Rattle.alloc_check_proof.specs.Allocated.{filled, HasForm};
 ghost use Rattle.alloc_check_lists.specs.Ranks.{RiseFrom};
@@ -161,7 +161,7 @@ fn told_before(
     found: &[Equation],
     out: &mut Vec<Equation>,
 ) -> Result<bool, NoMemory>
-    ensures keeps { IfOk result (λ keeps. IsTrue keeps ↔ Keeps instruction.now block.now found.now) }
+    ensures keeps { IfOk result (λ keeps. IsTrue keeps ↔ KeepsEquations instruction.now block.now found.now) }
     ensures needed { OnOk result (out.new.items ≡ needed instruction.now block.now found.now) }
 {
     let keeps = needed_before(alloc, instruction, block, found, out)?;

@@ -83,7 +83,7 @@ abbrev pub return_faults : Functions → Scope → ReturnType → ℕ → Option
 return_faults f scope gives at value = S.return_faults f scope gives at (optional_tree value_tree value)
 
 abbrev pub return_action : Functions → Scope → Option Value → ActionTree
-return_action f scope value = A.returned f scope (optional_tree value_tree value)
+return_action f scope value = A.return_action f scope (optional_tree value_tree value)
 
 -- a statement
 abbrev pub faults_in : Functions → Context → Here → Statement → List CheckError

@@ -70,9 +70,9 @@ abbrev pub step_action : Scope → Option SetTree → ActionTree
 step_action scope None = P.Nothing
 step_action scope (Some s) = set_action scope s
 
-abbrev pub returned : Functions → Scope → Option ValueTree → ActionTree
-returned f scope None = P.Leave
-returned f scope (Some v) = P.Give G.Caller (value_given f scope v)
+abbrev pub return_action : Functions → Scope → Option ValueTree → ActionTree
+return_action f scope None = P.Leave
+return_action f scope (Some v) = P.Give G.Caller (value_given f scope v)
 
 abbrev mutual
   pub action_of : Functions → ℕ → Here → StatementTree → ActionTree
@@ -96,7 +96,7 @@ abbrev mutual
       (step_action (with_start (suc depth) h start).scope step))
   action_of f depth h (T.Break at) = P.Break
   action_of f depth h (T.Continue at) = P.Continue
-  action_of f depth h (T.Return at v) = returned f h.scope v
+  action_of f depth h (T.Return at v) = return_action f h.scope v
 
   pub actions_of : Functions → ℕ → Here → StatementsTree → ActionsTree
   actions_of f depth h T.Done = P.Done

@@ -3,7 +3,7 @@
 ghost use Rattle.std.specs.Prelude.{◌≡◌, ◌+◌, ◌≤◌, IfOk, IfSome, IfNone};
 ghost use Rattle.c_program.specs.Meaning.{Breaks, Continues, Returns, Falls, ends};
 ghost use Rattle.c_meaning.specs.Reaching.{ReachesRest, ReachesCaller, ComesBack};
-ghost use Rattle.c_meaning_machine.specs.AtOnce.{returned};
+ghost use Rattle.c_meaning_machine.specs.AtOnce.{yields_back};
 ghost use Rattle.c_meaning_machine.specs.Costs.{back_cost, rest_cost};
 ghost use Rattle.c_meaning_machine.specs.Stacks.{waiting};
 ghost use Rattle.c_meaning_machine.specs.Steps.{next_cost};
@@ -96,7 +96,7 @@ pub fn returns(machine: &mut Machine, word: Option<u32>) -> Next
 /// `return` with what an expression gives: the nearest caller goes on.
 #[tactic(auto, using(c_meaning_machine::proofs::Stops::resume_fails))]
 pub fn returns_term(machine: &mut Machine, term: &Term) -> Next
-    ensures meaning { ReachesRest machine.old machine.new (returned term.now) result }
+    ensures meaning { ReachesRest machine.old machine.new (yields_back term.now) result }
     ensures cost { next_cost result machine.new ≤ 1 + rest_cost machine.old }
 {
     match evaluate(term, &machine.scope) {
@@ -121,7 +121,7 @@ fn hand_back<'a>(machine: &mut Machine<'a>, caller: Waiting<'a>, word: Option<u3
 #[inline(always)]
 #[tactic(auto, using(c_meaning_machine::proofs::Stops::resume_fails))]
 pub fn hand_back_term<'a>(machine: &mut Machine<'a>, caller: Waiting<'a>, term: &Term) -> Next
-    ensures meaning { ReachesCaller machine.old machine.new caller.entry (returned term.now) result }
+    ensures meaning { ReachesCaller machine.old machine.new caller.entry (yields_back term.now) result }
     ensures cost { next_cost result machine.new ≤ back_cost machine.old caller.entry }
 {
     match evaluate(term, &machine.scope) {

@@ -72,15 +72,15 @@ ComesCheaper Done actions = Unit {0}
 ComesCheaper (Stays action rest) actions =
     (lower : Costs) → cost lower (action_tree action.now) + cost_all lower (actions_tree rest.now) ≤ cost_all lower (actions_tree actions)
 
--- the word of this expression is returned
-abbrev pub returned : Term → State → Outcome
-returned term s = yields Caller s (word (term_tree term) s)
+-- the word of this expression is given back
+abbrev pub yields_back : Term → State → Outcome
+yields_back term s = yields Caller s (word (term_tree term) s)
 
--- What a body has come to: it went wrong, this expression is returned, or these actions are left.
+-- What a body has come to: it went wrong, this expression is given back, or these actions are left.
 abbrev pub Enters : Entered → List Action → Scope → Scope → Type 0
 Enters E.Wrong body old new = (lower : Level) (output : List ℕ) → exec_all lower (actions_tree body) (state_of old output) ≡ Fails output
 Enters (E.Returns term) body old new =
-    (lower : Level) (output : List ℕ) → exec_all lower (actions_tree body) (state_of old output) ≡ returned term.now (state_of new output)
+    (lower : Level) (output : List ℕ) → exec_all lower (actions_tree body) (state_of old output) ≡ yields_back term.now (state_of new output)
 Enters (E.Stays left) body old new =
     (lower : Level) (output : List ℕ) → exec_all lower (actions_tree body) (state_of old output) ≡ exec_all lower (actions_tree left.now) (state_of new output)
 

@@ -13,7 +13,7 @@ use Rattle.c_syntax.specs.Heights.{highest, IsLow, IsLowInitializer, IfThere}
 use Rattle.c_syntax.specs.Parts.{◌⨾◌}
 use Rattle.c_syntax.specs.Declarations.{IsReturnType, IsDeclaration, AreDeclarations}
 use Rattle.c_syntax.specs.declared.punctuator.Punctuator.TheVariants.{LeftBrace}
-use Rattle.c_reader_tokens.specs.Reading.{Stays}
+use Rattle.c_reader_tokens.specs.Reading.{IsSameOrTooDeep}
 use Rattle.c_reader_tokens.specs.Peeking.{is_sign_next}
 use Rattle.c_reader_productions.specs.Combining.{made, repeated}
 use Rattle.c_reader_statement_laws.specs.Reading.{block_in, statement_at}
@@ -128,7 +128,7 @@ module _ (block_keeps : (r s : ℕ) → r ≤ s → Keeps (block_in (statement_a
       keeps_either is_callable_next (callable_keeps fuel more le) (keeps_made (λ g. T.Global g) (global_keeps fuel more le)) ts
 
   -- With more fuel the same is read, unless there was too little.
-  pub declarations_stays : (fuel more : ℕ) (ts : List Token) → fuel ≤ more → Stays (declarations fuel ts) (declarations more ts)
+  pub declarations_stays : (fuel more : ℕ) (ts : List Token) → fuel ≤ more → IsSameOrTooDeep (declarations fuel ts) (declarations more ts)
   unfolding declarations
   declarations_stays fuel more ts le = keeps_each is_next_there (declaration_keeps fuel more le) ts
 

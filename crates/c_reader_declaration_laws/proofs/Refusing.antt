@@ -9,7 +9,7 @@ use Rattle.c_syntax.specs.Heights.{highest, expression_height, statements_height
 use Rattle.c_syntax.specs.Declarations.{AreDeclarations}
 use Rattle.c_reader_tokens.specs.declared.fault.Fault.{Fault}
 use Rattle.c_reader_tokens.specs.declared.fault.Fault.TheVariants.{Syntax}
-use Rattle.c_reader_tokens.specs.Reading.{Stays}
+use Rattle.c_reader_tokens.specs.Reading.{IsSameOrTooDeep}
 use Rattle.c_reader_statement_laws.specs.Reading.{block_in, statement_at}
 use Rattle.c_reader_productions.proofs.Combining.{IsReader}
 use Rattle.c_reader_productions.proofs.Laws.{Any, Keeps}
@@ -75,7 +75,7 @@ Declared = Result (List DeclarationTree × List Token) Fault
 ok_is_not_err : (x : List DeclarationTree × List Token) (f : Fault) (r : Declared) → r ≡ Ok x → r ≡ Err f → ⊥
 ok_is_not_err x f r e d = cc
 
-syntax_stays : (less more : Declared) (o : Option ℕ) → Stays less more → less ≡ Err (Syntax o) → more ≡ Err (Syntax o)
+syntax_stays : (less more : Declared) (o : Option ℕ) → IsSameOrTooDeep less more → less ≡ Err (Syntax o) → more ≡ Err (Syntax o)
 syntax_stays less more o (inl deep) e = absurd cc
 syntax_stays less more o (inr same) e = sym same ∙ e
 

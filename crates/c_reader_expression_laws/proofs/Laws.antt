@@ -7,7 +7,7 @@ use Rattle.c_syntax.specs.Signs.{operand_level}
 use Rattle.c_syntax.specs.Expressions.{IsExpressionAt}
 use Rattle.c_syntax.specs.Heights.{expression_height}
 use Rattle.c_reader_tokens.specs.declared.fault.Fault.TheVariants.{Syntax, TooDeep}
-use Rattle.c_reader_tokens.specs.Reading.{misfit, deep, Takes, Stays}
+use Rattle.c_reader_tokens.specs.Reading.{misfit, deep, Takes, IsSameOrTooDeep}
 use Rattle.c_reader_tokens.proofs.Laws.{ok_is, bind_ok, stays_refl, stays_bind}
 use Rattle.c_reader_expression_laws.specs.Operators.{begins_operand, Stops, Ends}
 use Rattle.c_reader_expression_laws.specs.Operands.{operand}
@@ -56,7 +56,7 @@ unfolding expression_at
 expression_again zero level t xs rest s low ends = absurd (let high = height-positive t in omega arith)
 expression_again (suc fuel) level t xs rest s low ends = level_again (expression_at fuel) fuel (expression_again fuel) level t xs rest s low ends
 
-pub expression_stays : (fuel more level : ℕ) (ts : List Token) → fuel ≤ more → Stays (expression_at fuel level ts) (expression_at more level ts)
+pub expression_stays : (fuel more level : ℕ) (ts : List Token) → fuel ≤ more → IsSameOrTooDeep (expression_at fuel level ts) (expression_at more level ts)
 unfolding expression_at
 expression_stays zero zero level ts le = stays_refl (deep begins_operand ts)
 expression_stays zero (suc more) level ts le = deep_stays (expression_at more) (λ left. chain (expression_at more) more level more left.0 left.1) ts

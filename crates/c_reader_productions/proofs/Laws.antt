@@ -6,7 +6,7 @@ use Rattle.c_syntax.specs.declared.token.Token.{Token}
 use Rattle.c_syntax.specs.Parts.{◌⨾◌, Nothing, Perhaps}
 use Rattle.c_syntax.specs.Heights.{IfThere}
 use Rattle.c_reader_tokens.specs.declared.fault.Fault.{Fault}
-use Rattle.c_reader_tokens.specs.Reading.{Reading, ◌>>=◌, Takes, Stays}
+use Rattle.c_reader_tokens.specs.Reading.{Reading, ◌>>=◌, Takes, IsSameOrTooDeep}
 use Rattle.c_reader_tokens.proofs.Laws.{done, ok_is, bind_ok, takes_then, parts_behind}
 use Rattle.c_reader_productions.specs.Combining.{Mark, ◌▷◌, ◌◁◌, marks, ◌&◌, made, either, missing, there, repeated, each}
 use Rattle.c_reader_productions.specs.Parts.{less, under}
@@ -258,20 +258,20 @@ module _ {A : Type 0} (goes : List Token → Bool) {part : Reading A} {F : A →
 
 -- With more fuel the same is read.
 abbrev pub Keeps : {A : Type 0} → Reading A → Reading A → Type 0
-Keeps reading more = (ts : List Token) → Stays (reading ts) (more ts)
+Keeps reading more = (ts : List Token) → IsSameOrTooDeep (reading ts) (more ts)
 
 pub keeps_same : {A : Type 0} (reading : Reading A) → Keeps reading reading
 keeps_same reading ts = inr refl
 
-stays_same : {A B : Type 0} (r : Result A Fault) (f g : A → Result B Fault) → ((x : A) → Stays (f x) (g x)) → Stays (r >>= f) (r >>= g)
+stays_same : {A B : Type 0} (r : Result A Fault) (f g : A → Result B Fault) → ((x : A) → IsSameOrTooDeep (f x) (g x)) → IsSameOrTooDeep (r >>= f) (r >>= g)
 stays_same (Ok x) f g h = h x
 stays_same (Err e) f g h = inr refl
 
-pub stays_bind : {A B : Type 0} (r s : Result A Fault) (f g : A → Result B Fault) → Stays r s → ((x : A) → Stays (f x) (g x)) → Stays (r >>= f) (s >>= g)
+pub stays_bind : {A B : Type 0} (r s : Result A Fault) (f g : A → Result B Fault) → IsSameOrTooDeep r s → ((x : A) → IsSameOrTooDeep (f x) (g x)) → IsSameOrTooDeep (r >>= f) (s >>= g)
 stays_bind r s f g k h =
     elim k [
       | inl e ↦ inl (ap (λ z. z >>= f) e)
-      | inr e ↦ subst (λ z. Stays (r >>= f) (z >>= g)) e (stays_same r f g h)
+      | inr e ↦ subst (λ z. IsSameOrTooDeep (r >>= f) (z >>= g)) e (stays_same r f g h)
     ]
 
 pub keeps_after : {A : Type 0} (mark : Mark) {part more : Reading A} → Keeps part more → Keeps (mark ▷ part) (mark ▷ more)
@@ -289,7 +289,7 @@ keeps_both {A} {B} {first} {first'} {second} {second'} k h ts =
 pub keeps_made : {A B : Type 0} (make : A → B) {part more : Reading A} → Keeps part more → Keeps (made make part) (made make more)
 keeps_made make {part} {more} k ts = stays_bind (part ts) (more ts) (λ x. Ok (make x.0, x.1)) (λ x. Ok (make x.0, x.1)) (k ts) (λ x. inr refl)
 
-stays_cond : {A : Type 0} (b : Bool) {x y z w : Result A Fault} → Stays x z → Stays y w → Stays (cond b x y) (cond b z w)
+stays_cond : {A : Type 0} (b : Bool) {x y z w : Result A Fault} → IsSameOrTooDeep x z → IsSameOrTooDeep y w → IsSameOrTooDeep (cond b x y) (cond b z w)
 stays_cond true k h = k
 stays_cond false k h = h
 

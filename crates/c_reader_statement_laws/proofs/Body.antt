@@ -7,7 +7,7 @@ use Rattle.c_syntax.specs.Trees.{StatementsTree}
 use Rattle.c_syntax.specs.Parts.{Sign, ◌⨾◌}
 use Rattle.c_syntax.specs.Statements.{AreStatements}
 use Rattle.c_syntax.specs.Heights.{statements_height}
-use Rattle.c_reader_tokens.specs.Reading.{Stays}
+use Rattle.c_reader_tokens.specs.Reading.{IsSameOrTooDeep}
 use Rattle.c_reader_statement_laws.specs.Reading.{block_in, statement_at}
 use Rattle.c_reader_productions.proofs.Laws.{IsTaken, Any}
 use Rattle.c_reader_statement_laws.proofs.StatementsTaken.{block_sound, statement_sound}
@@ -24,5 +24,5 @@ block_takes fuel ts ss rest e = (block_sound (statement_at fuel) fuel (statement
 pub block_again : (fuel : ℕ) (ss : StatementsTree) (xs rest : List Token) → statements_height ss ≤ fuel → IsBlock ss xs → block_in (statement_at fuel) (xs ++ rest) ≡ Ok (ss, rest)
 block_again fuel ss xs rest low d = again.block_again (statement_at fuel) fuel (statement_whole fuel) ss xs rest low d
 
-pub block_stays : (fuel more : ℕ) (ts : List Token) → fuel ≤ more → Stays (block_in (statement_at fuel) ts) (block_in (statement_at more) ts)
+pub block_stays : (fuel more : ℕ) (ts : List Token) → fuel ≤ more → IsSameOrTooDeep (block_in (statement_at fuel) ts) (block_in (statement_at more) ts)
 block_stays fuel more ts le = block_keeps (statement_at fuel) (statement_at more) fuel more le (statement_keeps fuel more le) ts

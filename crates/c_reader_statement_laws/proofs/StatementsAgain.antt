@@ -33,7 +33,7 @@ use Rattle.c_reader_statement_laws.specs.declared.first.First.TheVariants as F
 use Rattle.c_reader_productions.specs.Combining.{◌▷◌, ◌◁◌, ◌&◌, made, either, missing, there, each}
 use Rattle.c_reader_productions.specs.Deeds.{Deed, Becomes, Changes}
 use Rattle.c_reader_productions.specs.Parts.{under, name, call, value, is_cell_next, local, start_local, start_set, start_nothing, start}
-use Rattle.c_reader_statement_laws.specs.Reading.{Below, goes_on, items_in, block_in, first_of, empty, call_statement, assigned, stored, changed, assign, store, step_statement, break_statement, continue_statement, returned, return_statement, condition, step, statements_of, branched, else_in, branches_in, if_in, while_in, do_end, do_in, for_in, by_first, statement_at}
+use Rattle.c_reader_statement_laws.specs.Reading.{Below, goes_on, items_in, block_in, first_of, empty, call_statement, assigned, stored, changed, assign, store, step_statement, break_statement, continue_statement, read_return, return_statement, condition, step, statements_of, branched, else_in, branches_in, if_in, while_in, do_end, do_in, for_in, by_first, statement_at}
 use Rattle.c_reader_productions.proofs.Laws.{IsWhole, Any, both_marks, after', before', both', made_again, unless', EndsOption, Passes, Each, AllFit, either_first, either_second, under_again, bind_is}
 use Rattle.c_reader_productions.proofs.PartsTaken.{sign_mark, word_mark}
 use Rattle.c_reader_expression_laws.proofs.Beginning.{expression_begins, not_sign, apart_from}
@@ -107,7 +107,7 @@ step_whole fuel = record {
   option_ends None rest e = e.0
   option_ends (Some x) rest e = e.1
 
-returned_whole : (fuel : ℕ) → IsWhole (returned fuel) (λ o. optional_height value_height o ≤ fuel) (Perhaps IsValue) (λ o rest. (is_sign_next Semicolon rest ≡ true) × Closed rest)
+returned_whole : (fuel : ℕ) → IsWhole (read_return fuel) (λ o. optional_height value_height o ≤ fuel) (Perhaps IsValue) (λ o rest. (is_sign_next Semicolon rest ≡ true) × Closed rest)
 returned_whole fuel = record {
   again = λ o xs rest f d e. (unless' (is_sign_next Semicolon) (value_whole fuel) value_no_semicolon).again o xs rest (option_fits value_height fuel o f) d (option_ends o rest e);
 } where

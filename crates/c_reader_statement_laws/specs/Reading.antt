@@ -77,12 +77,12 @@ break_statement ts = made (λ at. T.Break at) (placed_word K.Break ◁ sign Semi
 unfoldable pub continue_statement : Reading StatementTree
 continue_statement ts = made (λ at. T.Continue at) (placed_word K.Continue ◁ sign Semicolon) ts
 
--- what is returned
-abbrev pub returned : ℕ → Reading (Option ValueTree)
-returned fuel ts = either (is_sign_next Semicolon) missing (there (value fuel)) ts
+-- the value that a `return` gives, or none
+abbrev pub read_return : ℕ → Reading (Option ValueTree)
+read_return fuel ts = either (is_sign_next Semicolon) missing (there (value fuel)) ts
 
 unfoldable pub return_statement : ℕ → Reading StatementTree
-return_statement fuel ts = made (λ v. T.Return v.0 v.1) (placed_word K.Return & returned fuel ◁ sign Semicolon) ts
+return_statement fuel ts = made (λ v. T.Return v.0 v.1) (placed_word K.Return & read_return fuel ◁ sign Semicolon) ts
 
 -- what an `if` makes of its condition, its statement, and what stands behind `else`
 abbrev pub branched : ExpressionTree → StatementTree → Option StatementTree → StatementTree

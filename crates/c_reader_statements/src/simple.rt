@@ -5,7 +5,7 @@ ghost use Rattle.c_syntax.specs.Views.{statement_tree, expression_tree, optional
 ghost use Rattle.c_syntax.specs.Trees as T;
 ghost use Rattle.c_reader_productions.specs.Combining.{made};
 ghost use Rattle.c_reader_productions.specs.Parts.{value, local};
-ghost use Rattle.c_reader_statement_laws.specs.Reading.{empty, call_statement, changed, assign, store, step_statement, break_statement, continue_statement, returned, return_statement};
+ghost use Rattle.c_reader_statement_laws.specs.Reading.{empty, call_statement, changed, assign, store, step_statement, break_statement, continue_statement, read_return, return_statement};
 ghost use Rattle.c_reader_statements.specs.Heads.{becoming};
 
 use crate::parts::{read_call, read_local, read_name_in, read_value};
@@ -176,8 +176,8 @@ fn read_returned(
     fuel: u8,
     tokens: &[Token],
 ) -> Result<(Option<Value>, &[Token]), Fault>
-    ensures ok { IfOk result (λ r. returned fuel tokens.now ≡ Ok (optional_tree value_tree r.0, r.1.now)) }
-    ensures err { IfErr result (λ e. e ≢ Fault.NoMemory → returned fuel tokens.now ≡ Err e) }
+    ensures ok { IfOk result (λ r. read_return fuel tokens.now ≡ Ok (optional_tree value_tree r.0, r.1.now)) }
+    ensures err { IfErr result (λ e. e ≢ Fault.NoMemory → read_return fuel tokens.now ≡ Err e) }
 {
     if is_sign_next(Punctuator::Semicolon, tokens) {
         return Ok((None, tokens));

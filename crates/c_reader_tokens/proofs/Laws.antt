@@ -3,7 +3,7 @@ use Rattle.std.proofs.Common.{◌≡◌, List, ◌++◌, Result, Ok, Err, inl, i
 use Rattle.c_syntax.specs.declared.token.Token.{Token}
 use Rattle.c_syntax.specs.Parts.{◌⨾◌}
 use Rattle.c_reader_tokens.specs.declared.fault.Fault.{Fault}
-use Rattle.c_reader_tokens.specs.Reading.{◌>>=◌, Takes, Stays}
+use Rattle.c_reader_tokens.specs.Reading.{◌>>=◌, Takes, IsSameOrTooDeep}
 
 abbrev pub done : {A : Type 0} → A → Result A Fault
 done x = Ok x
@@ -28,19 +28,19 @@ takes_then {rest = rest} p q = record {
 pub parts_behind : (ts xs ys rest : List Token) → ts ≡ xs ++ ys → ts ++ rest ≡ xs ++ (ys ++ rest)
 parts_behind ts xs ys rest e = ap (λ l. l ++ rest) e ∙ append_assoc xs ys rest
 
-pub stays_refl : {A : Type 0} (r : Result A Fault) → Stays r r
+pub stays_refl : {A : Type 0} (r : Result A Fault) → IsSameOrTooDeep r r
 stays_refl r = inr refl
 
-pub stays_trans : {A : Type 0} (r s t : Result A Fault) → Stays r s → Stays s t → Stays r t
+pub stays_trans : {A : Type 0} (r s t : Result A Fault) → IsSameOrTooDeep r s → IsSameOrTooDeep s t → IsSameOrTooDeep r t
 stays_trans r s t (inl deep) q = inl deep
 stays_trans r s t (inr same) (inl deep) = inl (same ∙ deep)
 stays_trans r s t (inr same) (inr next) = inr (same ∙ next)
 
-stays_bind_ok : {A B : Type 0} (r : Result A Fault) (f g : A → Result B Fault) → ((x : A) → r ≡ Ok x → Stays (f x) (g x)) → Stays (r >>= f) (r >>= g)
+stays_bind_ok : {A B : Type 0} (r : Result A Fault) (f g : A → Result B Fault) → ((x : A) → r ≡ Ok x → IsSameOrTooDeep (f x) (g x)) → IsSameOrTooDeep (r >>= f) (r >>= g)
 stays_bind_ok (Ok x) f g next = next x refl
 stays_bind_ok (Err e) f g next = inr refl
 
 -- Steps that stay make a reading that stays; the second may know what the first read.
-pub stays_bind : {A B : Type 0} (r s : Result A Fault) (f g : A → Result B Fault) → Stays r s → ((x : A) → r ≡ Ok x → Stays (f x) (g x)) → Stays (r >>= f) (s >>= g)
+pub stays_bind : {A B : Type 0} (r s : Result A Fault) (f g : A → Result B Fault) → IsSameOrTooDeep r s → ((x : A) → r ≡ Ok x → IsSameOrTooDeep (f x) (g x)) → IsSameOrTooDeep (r >>= f) (s >>= g)
 stays_bind r s f g (inl deep) next = inl (ap (λ x. x >>= f) deep)
 stays_bind r s f g (inr same) next = elim (stays_bind_ok r f g next) [ inl deep ↦ inl deep | inr e ↦ inr (e ∙ ap (λ x. x >>= g) same) ]

@@ -30,5 +30,5 @@ pub record Takes (IsSpelled : List Token → Type 0) (ts rest : List Token) : Ty
   pub parts : ts ≡ front ++ rest
 
 -- With more fuel the same is read, unless there was too little.
-abbrev pub Stays : {A : Type 0} → Result A Fault → Result A Fault → Type 0
-Stays less more = (less ≡ Err TooDeep) ⊎ (less ≡ more)
+abbrev pub IsSameOrTooDeep : {A : Type 0} → Result A Fault → Result A Fault → Type 0
+IsSameOrTooDeep less more = (less ≡ Err TooDeep) ⊎ (less ≡ more)

@@ -3,7 +3,7 @@ use Rattle.std.proofs.Common.{◌≡◌, ℕ, List, Option, inl, inr}
 use Rattle.cfarm_files.specs.Locking.{lock_path}
 use Rattle.cfarm_files.specs.Placing.{Placed, Makes}
 use Rattle.cfarm_build_folder.specs.BuildError.TheVariants.{NoMemory, NoThread, Source, Disks, Failed, Undecided, Unlinked, Names}
-use Rattle.cfarm_build.specs.Left.{Leaves}
+use Rattle.cfarm_build.specs.Left.{LeavesFolder}
 use Rattle.cfarm_build_folder.proofs.Making.{makes_through, makes_weaker}
 use Rattle.cfarm_build_folder.specs.Disks.{IsJournal, IsOwn, IsRefusedAt}
 use Rattle.cfarm_build_folder.specs.declared.error.BuildingError.{BuildingError}
@@ -19,7 +19,7 @@ of_both folder a b c lock journals = makes_through (IsOwn folder) a b c (of_lock
 
 -- where files may have been made
 module _ (folder : List ℕ) (placed now_placed : Option (List Placed)) where
-  pub left_at : (at : List ℕ) (e : BuildingError) → IsRefusedAt at e → Makes placed now_placed (IsOwn folder) → Leaves folder placed now_placed e
+  pub left_at : (at : List ℕ) (e : BuildingError) → IsRefusedAt at e → Makes placed now_placed (IsOwn folder) → LeavesFolder folder placed now_placed e
   left_at at (Build NoMemory) is makes = makes
   left_at at (Build NoThread) is makes = makes
   left_at at (Build (Source f)) is makes = absurd is

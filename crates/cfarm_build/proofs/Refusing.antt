@@ -22,14 +22,14 @@ use Rattle.cfarm_build.specs.Refused.{IsUnbuilt}
 use Rattle.cfarm_build.specs.Built.{Built}
 use Rattle.cfarm_build_folder.specs.BuildError.{BuildError}
 use Rattle.cfarm_build_folder.specs.BuildError.TheVariants.{NoMemory, NoThread, Source as TextFault, Disks, Failed, Undecided, Unlinked, Names}
-use Rattle.cfarm_files.specs.Placing.{Placed, GivesNoMore, Keeps, Makes}
+use Rattle.cfarm_files.specs.Placing.{Placed, GivesNoMore, KeepsFolder, Makes}
 use Rattle.cfarm_files.specs.Locking.{lock_path}
 use Rattle.cfarm_options.specs.Sizes.{count_of}
 use Rattle.cfarm_options.specs.declared.options.BuildOptions.{BuildOptions}
 use Rattle.cfarm_options.specs.Quorums.{quorums_of}
 use Rattle.cfarm_build.specs.Compiled.{HasNotCompiled, IsBuiltIn, IsRefusedIn, IsUnbuiltIn, IsUncompiled}
 use Rattle.cfarm_build_folder.specs.Disks.{AreGiven, HasNoDisk, IsOwn, IsRefusedAt}
-use Rattle.cfarm_build.specs.Left.{Leaves}
+use Rattle.cfarm_build.specs.Left.{LeavesFolder}
 use Rattle.cfarm_build_folder.proofs.Given.{given_before, refused_before}
 use Rattle.cfarm_build_folder.specs.declared.error.BuildingError.{BuildingError}
 use Rattle.cfarm_build_folder.specs.declared.error.BuildingError.TheVariants.{Build, File, Write}
@@ -51,7 +51,7 @@ ready text s accepted translated keeps names count digest = record {
 }
 
 -- what is known of the files is kept where nothing is put
-pub keeps_same : (o : Option (List Placed)) → Keeps o o
+pub keeps_same : (o : Option (List Placed)) → KeepsFolder o o
 keeps_same None = tt
 keeps_same (Some placed) = refl
 
@@ -85,7 +85,7 @@ module _ {D : Type 0} (disk : disks.Ghosts D) (pair : pairs.Ghosts D) {H : Type 
 
   -- what is refused behind a text that was made ready
   pub left_behind : (placed now_placed : Option (List Placed)) (e : BuildingError) → IsRefusedIn disk pair h may_give options source e
-      → Makes placed now_placed (IsOwn options.folder.now) → Leaves options.folder.now placed now_placed e
+      → Makes placed now_placed (IsOwn options.folder.now) → LeavesFolder options.folder.now placed now_placed e
   left_behind placed now_placed (Build NoMemory) un makes = makes
   left_behind placed now_placed (Build NoThread) un makes = makes
   left_behind placed now_placed (Build (TextFault f)) un makes = absurd un

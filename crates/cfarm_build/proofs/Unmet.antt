@@ -24,18 +24,18 @@ use Rattle.cfarm_build.proofs.Unbuilt.{not_counted}
 
 -- A node is seen as its program, its journal, its seats, its generator and what stopped it.
 module _ {N G D H : Type 0} {h : naming.Ghosts H} (disk : disks.Ghosts D) (program : N → G) (log : N → Log D) (seats : N → List (NumberedSeat H h))
-    (words : N → Lcg) (halted : N → Option Halted) (pair : pairs.Ghosts D) (q : Sizes) (seed : ℕ) (source : Source) (given : List D) (nodes : List N) where
-  pub unmet : (Q : N → Type 0) → AllByRecursion (λ n. SoundOf disk program log seats words halted n × Q n) nodes
-      → HaveRun disk pair q seed source given (map (node_of disk program log seats words halted) nodes) → (e : BuildError)
+    (draws : N → Lcg) (halted : N → Option Halted) (pair : pairs.Ghosts D) (q : Sizes) (seed : ℕ) (source : Source) (given : List D) (nodes : List N) where
+  pub unmet : (Q : N → Type 0) → AllByRecursion (λ n. SoundOf disk program log seats draws halted n × Q n) nodes
+      → HaveRun disk pair q seed source given (map (node_of disk program log seats draws halted) nodes) → (e : BuildError)
       → IsUnmet (Meets disk program log (λ n. fours_of (seats n)) halted (λ n. learned_by (seats n))) seats (λ n. fault_in (halted n)) nodes e
       → IsUnbuilt disk pair h q seed source given e
   unmet Q fit run NoMemory is = tt
   unmet Q fit run NoThread is = tt
   unmet Q fit run (TextFault f) is = is
   unmet Q fit run (Disks f) is = absurd is
-  unmet Q fit run (Failed n f) is = record { nodes = _; run = run; failed = failed_same disk program log seats words halted nodes ∙ is }
-  unmet Q fit run Undecided is = not_counted disk pair h q seed source given _ _ run (failed_same disk program log seats words halted nodes ∙ is.going)
-      (have_met_fit disk program log seats words halted Q nodes is.met fit is.stay)
-      (missed_seen seats (node_of disk program log seats words halted) (λ n. n.seats) (λ n. refl) is.met is.missed)
+  unmet Q fit run (Failed n f) is = record { nodes = _; run = run; failed = failed_same disk program log seats draws halted nodes ∙ is }
+  unmet Q fit run Undecided is = not_counted disk pair h q seed source given _ _ run (failed_same disk program log seats draws halted nodes ∙ is.going)
+      (have_met_fit disk program log seats draws halted Q nodes is.met fit is.stay)
+      (missed_seen seats (node_of disk program log seats draws halted) (λ n. n.seats) (λ n. refl) is.met is.missed)
   unmet Q fit run (Unlinked f function) is = absurd is
   unmet Q fit run Names is = is

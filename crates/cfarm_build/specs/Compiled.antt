@@ -20,7 +20,7 @@ use Rattle.cfarm_build_folder.specs.declared.error.BuildingError.{BuildingError}
 use Rattle.cfarm_build_folder.specs.declared.error.BuildingError.TheVariants.{Build, File, Write}
 use Rattle.cfarm_options.specs.declared.options.BuildOptions.{BuildOptions}
 use Rattle.cfarm_build.specs.Carried.{CarriesProof}
-use Rattle.cfarm_build.specs.Left.{Leaves}
+use Rattle.cfarm_build.specs.Left.{LeavesFolder}
 
 -- the text was made ready, and so it is of what it was made
 pub record IsBehind (text : List ℕ) (Is : Source → Type 0) : Type 0 where
@@ -84,4 +84,4 @@ module _ {D : Type 0} (disk : disks.Ghosts D) (pair : pairs.Ghosts D) {H : Type 
       -- nothing is built, for this, and nothing was put
       pub record HasNotCompiled (fault : BuildingError) : Type 0 where
         pub why : IsUncompiled fault
-        pub left : Leaves options.folder.now placed now_placed fault
+        pub left : LeavesFolder options.folder.now placed now_placed fault

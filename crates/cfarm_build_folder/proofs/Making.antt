@@ -2,7 +2,7 @@
 use Rattle.std.proofs.Common.{◌≡◌, ℕ, List, [], ◌∷◌, ◌++◌, map, Option, None, Some, sym, ap, ◌∙◌}
 use Rattle.std.specs.List.{AllByRecursion}
 use Rattle.std.proofs.lemmas.List.{append_assoc, append-nil, map-append}
-use Rattle.cfarm_files.specs.Placing.{Placed, Keeps, Makes, Places, made_at}
+use Rattle.cfarm_files.specs.Placing.{Placed, KeepsFolder, Makes, Places, made_at}
 use Rattle.cfarm_options.specs.Paths.{journal_path}
 use Rattle.cfarm_build_folder.specs.Disks.{IsJournal}
 use Rattle.cfarm_build_folder.specs.Putting.{PlacesBundle}
@@ -36,17 +36,17 @@ module _ (IsSuch : List ℕ → Type 0) where
       )
 
 -- what is known of the files after a put, and after none
-pub keeps_through : (a b c : Option (List Placed)) → Keeps a b → Keeps b c → Keeps a c
+pub keeps_through : (a b c : Option (List Placed)) → KeepsFolder a b → KeepsFolder b c → KeepsFolder a c
 keeps_through None b c one two = tt
 keeps_through (Some before) None c one two = absurd (cc one)
 keeps_through (Some before) (Some mid) c one two = two ∙ one
 
-places_keeps : (a b c : Option (List Placed)) (path bytes : List ℕ) → Places a b path bytes → Keeps b c → Places a c path bytes
+places_keeps : (a b c : Option (List Placed)) (path bytes : List ℕ) → Places a b path bytes → KeepsFolder b c → Places a c path bytes
 places_keeps None b c path bytes puts keeps = tt
 places_keeps (Some before) None c path bytes puts keeps = absurd (cc puts)
 places_keeps (Some before) (Some mid) c path bytes puts keeps = keeps ∙ puts
 
-pub bundle_keeps : (path bundle : Option (List ℕ)) (a b c : Option (List Placed)) → PlacesBundle path bundle a b → Keeps b c
+pub bundle_keeps : (path bundle : Option (List ℕ)) (a b c : Option (List Placed)) → PlacesBundle path bundle a b → KeepsFolder b c
     → PlacesBundle path bundle a c
 bundle_keeps None bundle a b c puts keeps = keeps_through a b c puts keeps
 bundle_keeps (Some path) None a b c puts keeps = puts

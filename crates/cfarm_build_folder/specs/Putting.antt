@@ -1,6 +1,6 @@
 -- What a build puts: the bundle, where one is asked for, and then the program in the folder.
 use Rattle.std.specs.Prelude.{◌⊎◌, ℕ, List, Option, None, Some, option_copied}
-use Rattle.cfarm_files.specs.Placing.{Placed, Keeps, Places}
+use Rattle.cfarm_files.specs.Placing.{Placed, KeepsFolder, Places}
 use Rattle.cfarm_options.specs.Paths.{linked_path}
 use Rattle.cfarm_options.specs.declared.options.BuildOptions.{BuildOptions}
 use Rattle.cfarm_build_folder.specs.Disks.{IsRefusedAt}
@@ -8,7 +8,7 @@ use Rattle.cfarm_build_folder.specs.declared.error.BuildingError.{BuildingError}
 
 -- the bundle's bytes were put in the file of this path, and nothing where none is given
 abbrev pub PlacesBundle : (path bundle : Option (List ℕ)) → (placed now_placed : Option (List Placed)) → Type 0
-PlacesBundle None bundle placed now_placed = Keeps placed now_placed
+PlacesBundle None bundle placed now_placed = KeepsFolder placed now_placed
 PlacesBundle (Some path) None placed now_placed = ⊥
 PlacesBundle (Some path) (Some bytes) placed now_placed = Places placed now_placed path bytes
 
@@ -31,7 +31,7 @@ module _ (options : BuildOptions) (bundle : Option (List ℕ)) (placed now_place
   -- the bundle's file was refused, and nothing put
   pub record HasNoBundle (fault : BuildingError) : Type 0 where
     pub refused : IsUnbundled (bundle_path options) fault
-    pub kept : Keeps placed now_placed
+    pub kept : KeepsFolder placed now_placed
 
   -- the bundle was put, and the program's file refused
   pub record HasBundleAlone (fault : BuildingError) : Type 0 where

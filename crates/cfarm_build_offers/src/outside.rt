@@ -23,7 +23,7 @@ impl<O: Oracles> Oracles for Outside<'_, O> {
         &mut self,
         alloc: Global,
         input: &rtl_language::Function,
-        words: &mut Pcg32,
+        draws: &mut Pcg32,
     ) -> Result<Option<(rtl_language::Function, FactLists)>, NoMemory> {
         let outside = match &mut self.given {
             Some(given) => given.constants.next_of(input),
@@ -31,7 +31,7 @@ impl<O: Oracles> Oracles for Outside<'_, O> {
         };
         match outside {
             Some(proposed) => Ok(Some(proposed)),
-            None => self.own.propose_constants(alloc, input, words),
+            None => self.own.propose_constants(alloc, input, draws),
         }
     }
 
@@ -39,7 +39,7 @@ impl<O: Oracles> Oracles for Outside<'_, O> {
         &mut self,
         alloc: Global,
         input: &rtl_language::Function,
-        words: &mut Pcg32,
+        draws: &mut Pcg32,
     ) -> Result<Option<(rtl_language::Function, EquationLists)>, NoMemory> {
         let outside = match &mut self.given {
             Some(given) => given.expressions.next_of(input),
@@ -47,7 +47,7 @@ impl<O: Oracles> Oracles for Outside<'_, O> {
         };
         match outside {
             Some(proposed) => Ok(Some(proposed)),
-            None => self.own.propose_expressions(alloc, input, words),
+            None => self.own.propose_expressions(alloc, input, draws),
         }
     }
 
@@ -55,7 +55,7 @@ impl<O: Oracles> Oracles for Outside<'_, O> {
         &mut self,
         alloc: Global,
         input: &rtl_language::Function,
-        words: &mut Pcg32,
+        draws: &mut Pcg32,
     ) -> Result<Option<(ltl::Function, PlaceLists)>, NoMemory> {
         let outside = match &mut self.given {
             Some(given) => given.allocation.next_of(input),
@@ -63,7 +63,7 @@ impl<O: Oracles> Oracles for Outside<'_, O> {
         };
         match outside {
             Some(proposed) => Ok(Some(proposed)),
-            None => self.own.propose_allocation(alloc, input, words),
+            None => self.own.propose_allocation(alloc, input, draws),
         }
     }
 
@@ -71,7 +71,7 @@ impl<O: Oracles> Oracles for Outside<'_, O> {
         &mut self,
         alloc: Global,
         input: &ltl::Function,
-        words: &mut Pcg32,
+        draws: &mut Pcg32,
     ) -> Result<Option<(linear_language::Function, Order)>, NoMemory> {
         let outside = match &mut self.given {
             Some(given) => given.order.next_of(input),
@@ -79,7 +79,7 @@ impl<O: Oracles> Oracles for Outside<'_, O> {
         };
         match outside {
             Some(proposed) => Ok(Some(proposed)),
-            None => self.own.propose_order(alloc, input, words),
+            None => self.own.propose_order(alloc, input, draws),
         }
     }
 }

@@ -78,9 +78,9 @@ module _ {N G D : Type 0} (disk : disks.Ghosts D) (program : N → G) (log : N �
 
 -- those that took turns and met, as they opened and as they are
 module _ {N G D H : Type 0} {h : naming.Ghosts H} (disk : disks.Ghosts D) (program : N → G) (log : N → Log D) (seats : N → List (NumberedSeat H h))
-    (words : N → Lcg) (halted : N → Option Halted) where
+    (draws : N → Lcg) (halted : N → Option Halted) where
   abbrev pub begun_of : N → Begun D H h
-  begun_of n = record { log = log n; seats = seats n; words = words n }
+  begun_of n = record { log = log n; seats = seats n; draws = draws n }
 
   abbrev pub node_of : N → Node D H h
   node_of n = node (log n) (seats n) (halted n)
@@ -101,7 +101,7 @@ module _ {N G D H : Type 0} {h : naming.Ghosts H} (disk : disks.Ghosts D) (progr
   pub have_run : (pair : pairs.Ghosts D) (q : Sizes) (seed : ℕ) (source : Source) (given : List D) (xs ys : List N)
       → AreJournalsOn disk pair q source.digest given (map log xs)
       → AreOpenFromJournals disk.is_honest disk.seen q (length (arc_value source.translated).functions) (map log xs) (map seats xs)
-      → map words xs ≡ generators seed (length given) → AllByRecursion (λ n. halted n ≡ None) xs
+      → map draws xs ≡ generators seed (length given) → AllByRecursion (λ n. halted n ≡ None) xs
       → AllZip (Turns disk program log (λ n. fours_of (seats n)) halted) xs ys → AllByRecursion SoundOf ys
       → HaveRun disk pair q seed source given (map node_of ys)
   have_run pair q seed source given xs ys journals rooms drawn going turns sound = record {
@@ -110,7 +110,7 @@ module _ {N G D H : Type 0} {h : naming.Ghosts H} (disk : disks.Ghosts D) (progr
         (sym (map_twice begun_of (λ b. b.log) xs)) journals;
     rooms = subst₂ (λ l r. AreOpenFromJournals disk.is_honest disk.seen q (length (arc_value source.translated).functions) l r)
         (sym (map_twice begun_of (λ b. b.log) xs)) (sym (map_twice begun_of (λ b. b.seats) xs)) rooms;
-    words = map_twice begun_of (λ b. b.words) xs ∙ drawn;
+    draws = map_twice begun_of (λ b. b.draws) xs ∙ drawn;
     turned = turned xs ys going turns;
     sound = all_mapped node_of (IsSound disk) ys sound;
   }
@@ -119,7 +119,7 @@ module _ {N G D H : Type 0} {h : naming.Ghosts H} (disk : disks.Ghosts D) (progr
   pub ran : (pair : pairs.Ghosts D) (Q : N → Type 0) (q : Sizes) (seed : ℕ) (source opened : Source) (given : List D) (xs ys : List N) → opened ≡ source
       → AreJournalsOn disk pair q opened.digest given (map log xs)
       → AreOpenFromJournals disk.is_honest disk.seen q (length (arc_value opened.translated).functions) (map log xs) (map seats xs)
-      → map words xs ≡ generators seed (length given) → All (λ n. halted n ≡ None) xs
+      → map draws xs ≡ generators seed (length given) → All (λ n. halted n ≡ None) xs
       → AllZip (Turns disk program log (λ n. fours_of (seats n)) halted) xs ys → AllByRecursion (λ n. SoundOf n × Q n) ys
       → HaveRun disk pair q seed source given (map node_of ys)
   ran pair Q q seed source opened given xs ys same journals rooms drawn going turns fit = have_run pair q seed source given xs ys

@@ -34,7 +34,7 @@ HasFewFunctions p = length p.functions ≤ 64
 pub record Begun (D : Type 0) (H : Type 0) (h : naming.Ghosts H) : Type 0 where
   pub log : Log D
   pub seats : List (NumberedSeat H h)
-  pub words : Lcg
+  pub draws : Lcg
 
 module _ {D : Type 0} (disk : disks.Ghosts D) where
   -- its journal stands for what it keeps
@@ -52,7 +52,7 @@ module _ {D : Type 0} (disk : disks.Ghosts D) where
     pub journals : AreJournalsOn disk pair q source.digest given (map (λ b. b.log) begun)
     pub rooms : AreOpenFromJournals disk.is_honest disk.seen q (length (arc_value source.translated).functions)
         (map (λ b. b.log) begun) (map (λ b. b.seats) begun)
-    pub words : map (λ b. b.words) begun ≡ generators seed (length given)
+    pub draws : map (λ b. b.draws) begun ≡ generators seed (length given)
     pub turned : AllZip TurnedInto begun nodes
     pub sound : AllByRecursion IsSound nodes
 

@@ -20,10 +20,10 @@ abbrev pub HasEmitted : List ℕ → Emitted → Option ℕ → Option (List ℕ
 HasEmitted text of seed before after = (bytes : List ℕ) × IsEmitted text of seed bytes × Appends before after bytes
 
 -- the first fault of the text, or its first function that needs too many nodes
-abbrev pub IsTold : List ℕ → EmitError → Type 0
-IsTold text (Source fault) = IsUnprepared text fault
-IsTold text NoMemory = Unit {0}
-IsTold text Write = Unit {0}
+abbrev pub IsEmitFault : List ℕ → EmitError → Type 0
+IsEmitFault text (Source fault) = IsUnprepared text fault
+IsEmitFault text NoMemory = Unit {0}
+IsEmitFault text Write = Unit {0}
 
 -- where it is refused nothing is printed; a writer that fails holds a beginning of the form
 abbrev pub Printed : List ℕ → Emitted → Option ℕ → EmitError → Option (List ℕ) → Option (List ℕ) → Type 0

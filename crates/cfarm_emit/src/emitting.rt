@@ -1,7 +1,7 @@
 //! The whole command.
 
 ghost use Rattle.std.specs.Prelude.{◌≡◌, ℕ, List, Option, OnOk, IfOk, IfErr};
-ghost use Rattle.cfarm_emit.specs.Told.{HasEmitted, IsEmitted, IsTold, Printed};
+ghost use Rattle.cfarm_emit.specs.Told.{HasEmitted, IsEmitted, IsEmitFault, Printed};
 
 use crate::error::EmitError;
 use crate::forms::form_text;
@@ -15,7 +15,7 @@ use std::io::Write;
 /// The bytes of the form.
 fn emitted(alloc: Global, text: &[u8], of: Emitted, seed: Option<u64>) -> Result<Vec<u8>, EmitError>
     ensures emitted { IfOk result (λ bytes. IsEmitted text.now of seed bytes.items) }
-    ensures refused { IfErr result (IsTold text.now) }
+    ensures refused { IfErr result (IsEmitFault text.now) }
     ensures silent { IfErr result (λ fault. (held : Option (List ℕ)) → Printed text.now of seed fault held held) }
 {
     let source = match prepare(alloc, text) {
@@ -42,7 +42,7 @@ pub fn emit<W: Write>(
     // The text is accepted, and the form of its program was written.
     ensures emitted { OnOk result (HasEmitted text.now of seed (W.contents out.old) (W.contents out.new)) }
     // A refusal tells the first fault of the text, and prints nothing; a writer that fails holds a beginning of the form.
-    ensures refused { IfErr result (IsTold text.now) }
+    ensures refused { IfErr result (IsEmitFault text.now) }
     ensures printed { IfErr result (λ fault. Printed text.now of seed fault (W.contents out.old) (W.contents out.new)) }
 {
     let bytes = match emitted(alloc, text, of, seed) {

@@ -11,9 +11,9 @@ abbrev pub made_at : List ℕ → Placed
 made_at path = record { path = path; bytes = None }
 
 -- what is known stays as it was
-abbrev pub Keeps : Option (List Placed) → Option (List Placed) → Type 0
-Keeps None new = Unit {0}
-Keeps (Some before) new = new ≡ Some before
+abbrev pub KeepsFolder : Option (List Placed) → Option (List Placed) → Type 0
+KeepsFolder None new = Unit {0}
+KeepsFolder (Some before) new = new ≡ Some before
 
 -- what is known grows by these bytes, put here
 abbrev pub Places : Option (List Placed) → Option (List Placed) → List ℕ → List ℕ → Type 0
@@ -22,7 +22,7 @@ Places (Some before) new path bytes = new ≡ Some (before ++ record { path = pa
 
 -- that, or where the file is refused it stays as it was
 abbrev pub PlacesOrKeeps : {T E : Type 0} → (before after : Option (List Placed)) → (path bytes : List ℕ) → Result T E → Type 0
-PlacesOrKeeps before after path bytes result = MatchResult result (λ _. Places before after path bytes) (λ _. Keeps before after)
+PlacesOrKeeps before after path bytes result = MatchResult result (λ _. Places before after path bytes) (λ _. KeepsFolder before after)
 
 -- what is known grows by files alone that are made at such paths, if by any
 abbrev pub Makes : Option (List Placed) → Option (List Placed) → (List ℕ → Type 0) → Type 0

@@ -13,7 +13,7 @@ use Rattle.rtl_language.specs.Meaning as rtl
 use Rattle.rtlgen_definition.specs.Gen.{gen}
 use Rattle.farm_nodes_source.specs.declared.source.Source.{Source}
 use Rattle.cfarm_build_faults.specs.Prepared.{IsSourceOf}
-use Rattle.cfarm_files.specs.Placing.{Placed, Keeps, Makes}
+use Rattle.cfarm_files.specs.Placing.{Placed, KeepsFolder, Makes}
 
 -- a text that was made ready
 pub ready : (text : List ℕ) (s : Source) → (u : UnitTree) × IsAccepted text u × IsProgramOf u s.program
@@ -32,6 +32,6 @@ ready text s accepted translated keeps names count digest = record {
 }
 
 -- what is known of the files is kept where nothing is made
-pub keeps_same : (o : Option (List Placed)) → Keeps o o
+pub keeps_same : (o : Option (List Placed)) → KeepsFolder o o
 keeps_same None = tt
 keeps_same (Some placed) = refl

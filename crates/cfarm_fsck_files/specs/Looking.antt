@@ -12,7 +12,7 @@ use Rattle.cfarm_build_faults.specs.Statuses.{status_of}
 use Rattle.cfarm_build_faults.specs.declared.error.BuildError.{BuildError}
 use Rattle.cfarm_build_faults.specs.declared.error.BuildError.TheVariants as build
 use Rattle.cfarm_files.specs.Locking.{lock_path}
-use Rattle.cfarm_files.specs.Placing.{Keeps, Makes}
+use Rattle.cfarm_files.specs.Placing.{KeepsFolder, Makes}
 use Rattle.cfarm_files.specs.declared.fault.FileFault.{FileFault}
 use Rattle.cfarm_files.specs.declared.files.Files as filing
 use Rattle.cfarm_files.specs.declared.fault.FileFault.TheVariants as file
@@ -63,6 +63,6 @@ module _ {F D L : Type 0} (over : filing.Ghosts F D L) (files : F) (folder : Lis
 -- printed. Else the lock's file alone may be made, and nothing is put.
 abbrev pub Looked : {F D L : Type 0} → filing.Ghosts F D L → (given left : F) → (folder : List ℕ) → Sizes → (text : List ℕ) → Coming
 Looked over given left folder q text answer before after =
-    ((fault : SourceFault) × IsUnprepared text fault × Keeps (over.placed given) (over.placed left) × (after ≡ before) × (answer ≡ build_fault (build.Source fault)))
+    ((fault : SourceFault) × IsUnprepared text fault × KeepsFolder (over.placed given) (over.placed left) × (after ≡ before) × (answer ≡ build_fault (build.Source fault)))
     ⊎ ((source : Source) × IsSourceOf text source × Makes (over.placed given) (over.placed left) (λ path. path ≡ lock_path folder)
     × OfLocked over left folder q source answer before after)

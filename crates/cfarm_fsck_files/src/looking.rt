@@ -6,7 +6,7 @@ ghost use Rattle.cfarm_fsck_files.specs.Looking.{Found, OfFiles, OfLocked, build
 ghost use Rattle.cfarm_fsck_files.specs.Saying.{LookedOver, Tells};
 ghost use Rattle.cfarm_files.specs.Locking.{lock_path};
 ghost use Rattle.cfarm_files.specs.Placing.{Makes};
-ghost use Rattle.cfarm_program_status.specs.Telling.{IsTold};
+ghost use Rattle.cfarm_program_status.specs.Telling.{IsToldAs};
 
 use crate::reading::read_files;
 use crate::unread::Unread;
@@ -27,7 +27,7 @@ use std::thread::Threads;
 /// Tells why nothing is built, by the line and with the status of `build`.
 #[tactic(auto, using(crate::proofs::Statuses::in_table))]
 fn tell_build<E: ErrorLines>(err: &mut E, fault: BuildError) -> u8
-    ensures told { IsTold (build_fault fault) result (E.contents err.old) (E.contents err.new) }
+    ensures told { IsToldAs (build_fault fault) result (E.contents err.old) (E.contents err.new) }
     ensures table { result ≤ 7 }
 {
     let status = fault.status();
@@ -36,7 +36,7 @@ fn tell_build<E: ErrorLines>(err: &mut E, fault: BuildError) -> u8
 
 /// Tells why a folder is not told.
 fn tell_error<E: ErrorLines>(err: &mut E, fault: FsckError) -> u8
-    ensures told { IsTold (fsck_fault fault) result (E.contents err.old) (E.contents err.new) }
+    ensures told { IsToldAs (fsck_fault fault) result (E.contents err.old) (E.contents err.new) }
     ensures table { result ≤ 7 }
 {
     match fault {
@@ -48,7 +48,7 @@ fn tell_error<E: ErrorLines>(err: &mut E, fault: FsckError) -> u8
 
 /// Tells why the files of its journals are not read.
 fn tell_unread_file<E: ErrorLines>(err: &mut E, fault: &Unread) -> u8
-    ensures told { IsTold (unread_fault fault.now) result (E.contents err.old) (E.contents err.new) }
+    ensures told { IsToldAs (unread_fault fault.now) result (E.contents err.old) (E.contents err.new) }
     ensures table { result ≤ 7 }
 {
     match fault {

@@ -3,6 +3,6 @@ use Rattle.std.specs.Prelude.{List, Option, None, Some}
 use Rattle.std.proofs.Common.{refl}
 use Rattle.cfarm_files.specs.Placing as placing
 
-pub keeps_same : (o : Option (List placing.Placed)) → placing.Keeps o o
+pub keeps_same : (o : Option (List placing.Placed)) → placing.KeepsFolder o o
 keeps_same None = tt
 keeps_same (Some placed) = refl

@@ -9,7 +9,7 @@ use Rattle.cfarm_output.specs.Begun.{IsBegun}
 use Rattle.cfarm_output.specs.Errors.{ErrorsHeld}
 use Rattle.cfarm_output.specs.declared.paced.Paced.{Paced}
 use Rattle.cfarm_build.specs.Changed.{Changed}
-use Rattle.cfarm_program_status.specs.Telling.{IsShown, IsTold, no_memory, unwritten}
+use Rattle.cfarm_program_status.specs.Telling.{IsShown, IsToldAs, no_memory, unwritten}
 
 -- help or the version is asked for
 abbrev pub IsHelp : ErrorKind → Type 0
@@ -26,7 +26,7 @@ module _ {W E : Type 0} (contents : W → Option (List ℕ)) (errors : E → Err
   IsHelpPrinted text =
       ((status ≡ 0) × Appends (contents out.entry.now.taker) (contents out.exit.now.taker) text × (errors err.exit.now ≡ errors err.entry.now))
       ⊎ (IsBegun text (contents out.entry.now.taker) (contents out.exit.now.taker)
-      × IsTold unwritten status (errors err.entry.now) (errors err.exit.now))
+      × IsToldAs unwritten status (errors err.entry.now) (errors err.exit.now))
 
   -- the text is told with the status 2, or standard error failed; nothing is printed
   abbrev pub IsMistakeTold : List ℕ → Type 0
@@ -34,7 +34,7 @@ module _ {W E : Type 0} (contents : W → Option (List ℕ)) (errors : E → Err
 
   -- it is told that memory was refused; nothing is printed
   abbrev pub IsMemoryTold : Type 0
-  IsMemoryTold = IsUnprinted × IsTold no_memory status (errors err.entry.now) (errors err.exit.now)
+  IsMemoryTold = IsUnprinted × IsToldAs no_memory status (errors err.entry.now) (errors err.exit.now)
 
   -- help is printed, and a mistake is told
   pub record IsTextShown (kind : ErrorKind) (text : List ℕ) : Type 0 where

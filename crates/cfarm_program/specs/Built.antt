@@ -1,6 +1,6 @@
 -- What `build` comes to: what it put and wrote, and what it answers.
 use Rattle.std.specs.Prelude.{◌≡◌, ◌⊎◌, List, Option, None, Some, ℕ, false, true, option_copied}
-use Rattle.cfarm_files.specs.Placing.{Keeps}
+use Rattle.cfarm_files.specs.Placing.{KeepsFolder}
 use Rattle.cfarm_files.specs.declared.fault.FileFault.TheVariants.{Refused}
 use Rattle.cfarm_build.specs.Answers as building
 use Rattle.cfarm_build.specs.BuildingError.{BuildingError}
@@ -33,5 +33,5 @@ module _ {F H D L : Type 0} (farm : farms.Ghosts F H D L) (files : Changed F) (o
   -- `build`: a bundle that is to be put at such a path is refused, and then nothing is made, put or printed; else the build is done
   abbrev pub Builds : (path bytes : List ℕ) → Coming
   Builds path bytes answer before after =
-      (IsTakenAt path (option_copied options.bundle) answer × Keeps (farm.files.placed files.entry.now) (farm.files.placed files.exit.now) × (after ≡ before))
+      (IsTakenAt path (option_copied options.bundle) answer × KeepsFolder (farm.files.placed files.entry.now) (farm.files.placed files.exit.now) × (after ≡ before))
       ⊎ ((is_given_taken path (option_copied options.bundle) ≡ false) × BuildsApart bytes answer before after)

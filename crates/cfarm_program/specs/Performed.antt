@@ -3,7 +3,7 @@ use Rattle.std.specs.Prelude.{◌≡◌, ◌⊎◌, ℕ, List, Bool, Option, Ok,
 use Rattle.std.specs.declared.io.traits.Write as writing
 use Rattle.cfarm_output.specs.declared.errors.ErrorLines as lines
 use Rattle.cfarm_output.specs.declared.paced.Paced.{Paced}
-use Rattle.cfarm_files.specs.Placing.{Keeps}
+use Rattle.cfarm_files.specs.Placing.{KeepsFolder}
 use Rattle.cfarm_files.specs.Reading.{IsKnownAs}
 use Rattle.cfarm_files.specs.declared.fault.FileFault.{FileFault}
 use Rattle.cfarm_files.specs.declared.files.Files as filing
@@ -18,7 +18,7 @@ use Rattle.cfarm_command_line_others.specs.declared.task.Task.{Task}
 use Rattle.cfarm_command_line_others.specs.declared.task.Task.TheVariants.{Check, Interpret, Build, Exec, Settle, Simulate, Show, Verify, Emit, Judge, Fsck}
 use Rattle.cfarm_command_line_others.specs.declared.task.Task.TheVariants as task
 use Rattle.cfarm_program_status.specs.Reading.{Coming, unread}
-use Rattle.cfarm_program_status.specs.Telling.{Answer, IsTold, told}
+use Rattle.cfarm_program_status.specs.Telling.{Answer, IsToldAs, told}
 use Rattle.cfarm_program_looks.specs.Showing.{Texted}
 use Rattle.cfarm_program_looks.specs.Listing.{Listed}
 use Rattle.cfarm_program_looks.specs.Verifying.{Verified}
@@ -48,7 +48,7 @@ Looks over output errors options bytes status files out err = Tells output.conte
 module _ {F H D L : Type 0} (farm : farms.Ghosts F H D L) (files : Changed F) where
   -- no file was put
   abbrev pub KeepsFiles : Type 0
-  KeepsFiles = Keeps (farm.files.placed files.entry.now) (farm.files.placed files.exit.now)
+  KeepsFiles = KeepsFolder (farm.files.placed files.entry.now) (farm.files.placed files.exit.now)
 
   -- a task on the bytes of its file, with what it wrote and answers; a build alone puts a file, and `fsck`
   -- makes that of its folder's lock, behind which it reads
@@ -88,7 +88,7 @@ module _ {F H D L W E : Type 0} (farm : farms.Ghosts F H D L) (output : writing.
   abbrev pub TellsAlone : Answer → ℕ → Changed F → Changed (Paced W) → Changed E → Type 0
   TellsAlone answer status files out err =
       KeepsFiles farm files × (output.contents out.exit.now.taker ≡ output.contents out.entry.now.taker)
-      × IsTold answer status (errors.contents err.entry.now) (errors.contents err.exit.now)
+      × IsToldAs answer status (errors.contents err.entry.now) (errors.contents err.exit.now)
 
   -- the file is read as it is known to be, and the task done; or it is not read, which is told
   abbrev pub Reads : Task → (path : List ℕ) → ℕ → Changed F → Changed (Paced W) → Changed E → Type 0

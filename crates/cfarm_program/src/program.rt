@@ -4,7 +4,7 @@ ghost use Rattle.std.specs.Prelude.{◌≢◌, ◌≤◌, IfSome, OnSome};
 ghost use Rattle.std.specs.String.{string_bytes};
 ghost use Rattle.clap.specs.Words.{kind_of};
 ghost use Rattle.clap.specs.declared.error.kind.ErrorKind.TheVariants.{DisplayHelp, DisplayVersion, OutOfMemory};
-ghost use Rattle.cfarm_program_status.specs.Telling.{IsShown, IsTold};
+ghost use Rattle.cfarm_program_status.specs.Telling.{IsShown, IsToldAs};
 ghost use Rattle.cfarm_program.specs.Answered.{IsAnswerShown, IsHelp, IsHelpPrinted, IsMistakeTold};
 ghost use Rattle.cfarm_program.specs.Runs.{Runs, no_text};
 
@@ -129,7 +129,7 @@ where
 
 /// Tells that the words of the command line are not text, and gives the status.
 pub fn tell_no_text<E: ErrorLines>(err: &mut E) -> u8
-    ensures told { IsTold no_text result (E.contents err.old) (E.contents err.new) }
+    ensures told { IsToldAs no_text result (E.contents err.old) (E.contents err.new) }
     ensures table { result ≤ 7 }
 {
     tell(

@@ -2,7 +2,7 @@
 use Rattle.std.specs.Prelude.{◌≡◌, ◌⊎◌, ℕ, List, Option}
 use Rattle.cfarm_options.specs.declared.emitted.Emitted.{Emitted}
 use Rattle.cfarm_emit.specs.Lines as emit
-use Rattle.cfarm_emit.specs.Told.{HasEmitted, IsTold, Printed}
+use Rattle.cfarm_emit.specs.Told.{HasEmitted, IsEmitFault, Printed}
 use Rattle.cfarm_emit.specs.declared.error.EmitError.{EmitError}
 use Rattle.cfarm_program_status.specs.Telling.{Answer, quiet, told}
 
@@ -13,4 +13,4 @@ emit_fault fault = told (emit.status_of fault) (emit.emit_line fault)
 abbrev pub Formed : List ℕ → Emitted → Option ℕ → Answer → Option (List ℕ) → Option (List ℕ) → Type 0
 Formed text emitted seed answer before after =
     (HasEmitted text emitted seed before after × (answer ≡ quiet))
-    ⊎ ((fault : EmitError) × IsTold text fault × Printed text emitted seed fault before after × (answer ≡ emit_fault fault))
+    ⊎ ((fault : EmitError) × IsEmitFault text fault × Printed text emitted seed fault before after × (answer ≡ emit_fault fault))

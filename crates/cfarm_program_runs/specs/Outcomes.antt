@@ -55,19 +55,19 @@ schedule_fault fault = told (schedule.status_of fault) (schedule.schedule_line f
 abbrev pub Checked : Format → (path bytes : List ℕ) → Answer → Option (List ℕ) → Option (List ℕ) → Type 0
 Checked format path bytes answer before after =
     (text.HasCounted bytes before after × (answer ≡ quiet))
-    ⊎ ((fault : CommandError) × text.IsTold bytes fault × text.Printed bytes fault before after × (answer ≡ checked_fault format path bytes fault))
+    ⊎ ((fault : CommandError) × text.IsTextFault bytes fault × text.Printed bytes fault before after × (answer ≡ checked_fault format path bytes fault))
 
 -- `interpret`: what an accepted text's program does at the bound is written and told, or its first fault is
 abbrev pub Interpreted : List ℕ → ℕ → Answer → Option (List ℕ) → Option (List ℕ) → Type 0
 Interpreted bytes depth answer before after =
     ((shown : Shown) × text.HasRun bytes depth shown before after × (answer ≡ closed shown))
-    ⊎ ((fault : CommandError) × text.IsTold bytes fault × text.Ran bytes depth fault before after × (answer ≡ text_fault fault))
+    ⊎ ((fault : CommandError) × text.IsTextFault bytes fault × text.Ran bytes depth fault before after × (answer ≡ text_fault fault))
 
 -- `exec`: what the program of Linear that the bytes spell does within the bound is written and told, or why there is none
 abbrev pub Executed : List ℕ → ℕ → Option ℤ → Answer → Option (List ℕ) → Option (List ℕ) → Type 0
 Executed bytes limit expected answer before after =
     ((shown : Shown) × exec.HasRun bytes limit shown before after × (answer ≡ closed_where expected shown))
-    ⊎ ((fault : ExecError) × exec.IsTold bytes fault × exec.Ran bytes limit fault before after × (answer ≡ exec_fault fault))
+    ⊎ ((fault : ExecError) × exec.IsExecFault bytes fault × exec.Ran bytes limit fault before after × (answer ≡ exec_fault fault))
 
 -- `settle`: what the nodes of three seats have agreed on is printed, or why the bytes are refused is told. The seats end with the
 -- program, so here there are some; which they are is said of the command.

@@ -5,18 +5,18 @@ use Rattle.std.proofs.Common.{ap, subst, refl, inl, inr, append_assoc, true≢fa
 use Rattle.std.specs.Io.KnownBytes.{Appends}
 use Rattle.std.proofs.KnownBytes.{Appends-trans}
 use Rattle.cfarm_output.specs.Errors.{ErrorsHeld, HasFailed, Tells}
-use Rattle.cfarm_program_status.specs.Telling.{Answer, IsExplained, IsExplainedBy, IsShown, IsTold, IsToldAmong, IsToldBy, break_where, told}
+use Rattle.cfarm_program_status.specs.Telling.{Answer, IsExplained, IsExplainedBy, IsShown, IsToldAs, IsToldAmong, IsToldBy, break_where, told}
 
 -- the same status by another name
-pub told_by : (s t : ℕ) (line : List ℕ) (r : ℕ) (before after : ErrorsHeld) → s ≡ t → IsTold (told s line) r before after → IsTold (told t line) r before after
-told_by s t line r before after same is = subst (λ k. IsTold (told k line) r before after) same is
+pub told_by : (s t : ℕ) (line : List ℕ) (r : ℕ) (before after : ErrorsHeld) → s ≡ t → IsToldAs (told s line) r before after → IsToldAs (told t line) r before after
+told_by s t line r before after same is = subst (λ k. IsToldAs (told k line) r before after) same is
 
 -- a line that was written and flushed
-pub told_line : (o : Option (List ℕ)) (text : List ℕ) (status : ℕ) (before after : ErrorsHeld) → o ≡ Some text → IfSome (with_newline o) (Tells before after) → IsTold (told status text) status before after
+pub told_line : (o : Option (List ℕ)) (text : List ℕ) (status : ℕ) (before after : ErrorsHeld) → o ≡ Some text → IfSome (with_newline o) (Tells before after) → IsToldAs (told status text) status before after
 told_line o text status before after e h = inl (refl, subst (λ x. IfSome (with_newline x) (Tells before after)) e h)
 
 -- or it was not
-pub untold_line : (text : List ℕ) (status : ℕ) (before after : ErrorsHeld) → HasFailed after → IsTold (told status text) 4 before after
+pub untold_line : (text : List ℕ) (status : ℕ) (before after : ErrorsHeld) → HasFailed after → IsToldAs (told status text) 4 before after
 untold_line text status before after failed = inr (refl, failed)
 
 -- a line that is told alone
@@ -25,7 +25,7 @@ plain_by : (is_seen : Bool) (status : ℕ) (line : Option (List ℕ)) (r : ℕ) 
 plain_by is_seen status None r before after alone = alone
 plain_by is_seen status (Some line) r before after alone = ([], [], ((λ unseen. (refl, refl)), (false, refl)), alone)
 
-pub plainly : (is_seen : Bool) (answer : Answer) (r : ℕ) (before after : ErrorsHeld) → IsTold answer r before after → IsExplained is_seen answer r before after
+pub plainly : (is_seen : Bool) (answer : Answer) (r : ℕ) (before after : ErrorsHeld) → IsToldAs answer r before after → IsExplained is_seen answer r before after
 plainly is_seen answer r before after alone = plain_by is_seen answer.status answer.line r before after alone
 
 -- a line, and what is shown behind it

@@ -5,7 +5,7 @@ use Rattle.cfarm_files.specs.declared.fault.FileFault.{FileFault}
 use Rattle.cfarm_files.specs.declared.fault.FileFault.TheVariants.{NoMemory, Refused}
 use Rattle.cfarm_output.specs.Errors.{ErrorsHeld}
 use Rattle.cfarm_output.specs.declared.paced.Paced.{Paced}
-use Rattle.cfarm_program_status.specs.Telling.{Answer, IsTold, no_memory, told}
+use Rattle.cfarm_program_status.specs.Telling.{Answer, IsToldAs, no_memory, told}
 
 -- the answer where a file is not read
 abbrev pub unread : List ℕ → FileFault → Answer
@@ -19,7 +19,7 @@ Coming = Answer → Option (List ℕ) → Option (List ℕ) → Type 0
 -- it came to this, which is told: the exit status, and what both writers held and hold
 abbrev pub Says : {W E : Type 0} → (W → Option (List ℕ)) → (E → ErrorsHeld) → Coming → ℕ → (before after : Paced W) → (errors_before errors_after : E) → Type 0
 Says contents errors Comes status before after errors_before errors_after =
-    (answer : Answer) × Comes answer (contents before.taker) (contents after.taker) × IsTold answer status (errors errors_before) (errors errors_after)
+    (answer : Answer) × Comes answer (contents before.taker) (contents after.taker) × IsToldAs answer status (errors errors_before) (errors errors_after)
 
 -- a file that was read, or was not, and then nothing is printed
 abbrev pub OnRead : List ℕ → (List ℕ → Coming) → Result (List ℕ) FileFault → Coming

@@ -28,12 +28,12 @@ IsToldBy status None result before after = (result ≡ status) × (after ≡ bef
 IsToldBy status (Some line) result before after =
     ((result ≡ status) × Tells before after (line ++ 10 ∷ [])) ⊎ ((result ≡ 4) × HasFailed after)
 
-abbrev pub IsTold : Answer → ℕ → ErrorsHeld → ErrorsHeld → Type 0
-IsTold answer result before after = IsToldBy answer.status answer.line result before after
+abbrev pub IsToldAs : Answer → ℕ → ErrorsHeld → ErrorsHeld → Type 0
+IsToldAs answer result before after = IsToldBy answer.status answer.line result before after
 
 -- the line, where its text is known, with this status
 abbrev pub IsLineTold : Option (List ℕ) → ℕ → ℕ → ErrorsHeld → ErrorsHeld → Type 0
-IsLineTold line status result before after = (text : List ℕ) → line ≡ Some text → IsTold (told status text) result before after
+IsLineTold line status result before after = (text : List ℕ) → line ≡ Some text → IsToldAs (told status text) result before after
 
 -- The same with bytes in front of the line and behind its end.
 abbrev pub IsToldAmong : (front behind : List ℕ) → ℕ → List ℕ → ℕ → ErrorsHeld → ErrorsHeld → Type 0

@@ -1,7 +1,7 @@
 //! Lines on standard error.
 
 ghost use Rattle.std.specs.Prelude.{◌≤◌, true, false};
-ghost use Rattle.cfarm_program_status.specs.Telling.{IsLineAmong, IsLineTold, IsShown, IsTold, no_memory};
+ghost use Rattle.cfarm_program_status.specs.Telling.{IsLineAmong, IsLineTold, IsShown, IsToldAs, no_memory};
 
 use cfarm_output::{ErrorLines, Unwritten};
 use std::fmt;
@@ -84,7 +84,7 @@ pub fn tell_among<E: ErrorLines, D: fmt::Display + Drop>(
 
 /// Tells that there is no memory, and gives the status.
 pub fn tell_no_memory<E: ErrorLines>(err: &mut E) -> u8
-    ensures told { IsTold no_memory result (E.contents err.old) (E.contents err.new) }
+    ensures told { IsToldAs no_memory result (E.contents err.old) (E.contents err.new) }
     ensures table { result ≤ 7 }
 {
     tell(err, "memory", 7)

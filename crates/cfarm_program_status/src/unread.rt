@@ -1,7 +1,7 @@
 //! A file that cannot be read.
 
 ghost use Rattle.std.specs.Prelude.{◌≤◌};
-ghost use Rattle.cfarm_program_status.specs.Telling.{IsTold};
+ghost use Rattle.cfarm_program_status.specs.Telling.{IsToldAs};
 ghost use Rattle.cfarm_program_status.specs.Reading.{unread};
 
 use crate::telling::{tell, tell_no_memory};
@@ -29,7 +29,7 @@ impl fmt::Display for Unread<'_> {
 
 /// Tells why the file of this path is not read, and gives the status.
 pub fn tell_unread<E: ErrorLines>(err: &mut E, path: &str, fault: FileFault) -> u8
-    ensures told { IsTold (unread path.now fault) result (E.contents err.old) (E.contents err.new) }
+    ensures told { IsToldAs (unread path.now fault) result (E.contents err.old) (E.contents err.new) }
     ensures table { result ≤ 7 }
 {
     match fault {

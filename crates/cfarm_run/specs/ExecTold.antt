@@ -30,9 +30,9 @@ abbrev pub IsBehindTold : List ℕ → FormError → Type 0
 IsBehindTold bytes fault = fault ≢ NoMemory → (p : Program FunctionData) (first : ℕ) (rest : List ℕ) →
     IsProgram IsFunction p → bytes ≡ program_text 4 spelling p ++ first ∷ rest → fault ≡ NotCanonical
 
-abbrev pub IsTold : List ℕ → ExecError → Type 0
-IsTold bytes (Form fault) = IsFormTold bytes fault × IsBehindTold bytes fault
-IsTold bytes (Run fault) = Unit {0}
+abbrev pub IsExecFault : List ℕ → ExecError → Type 0
+IsExecFault bytes (Form fault) = IsFormTold bytes fault × IsBehindTold bytes fault
+IsExecFault bytes (Run fault) = Unit {0}
 
 -- bytes that are refused print nothing; a run that is broken off is one of a program that they spell, and wrote a beginning of the output
 abbrev pub Ran : List ℕ → ℕ → ExecError → Option (List ℕ) → Option (List ℕ) → Type 0

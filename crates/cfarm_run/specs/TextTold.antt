@@ -23,9 +23,9 @@ abbrev pub HasRun : List ℕ → ℕ → Shown → Option (List ℕ) → Option 
 HasRun text depth shown before after = (u : UnitTree) × IsAccepted text u × Wrote (crun (program_of u) depth) (Ok shown) before after
 
 -- a text that is refused has this first fault
-abbrev pub IsTold : List ℕ → CommandError → Type 0
-IsTold text (Text fault) = IsRefused text fault
-IsTold text (Run fault) = Unit {0}
+abbrev pub IsTextFault : List ℕ → CommandError → Type 0
+IsTextFault text (Text fault) = IsRefused text fault
+IsTextFault text (Run fault) = Unit {0}
 
 -- a text that is refused prints nothing; a run that is broken off is one of an accepted text, and wrote a beginning of the output
 abbrev pub Ran : List ℕ → ℕ → CommandError → Option (List ℕ) → Option (List ℕ) → Type 0

@@ -2,7 +2,7 @@ ghost use Rattle.std.specs.Prelude.{◌≡◌, OnOk, IfOk, IfErr};
 ghost use Rattle.std.specs.String.{string_bytes};
 ghost use Rattle.c_checker_rules.specs.Checked.{program_tree};
 ghost use Rattle.cfarm_run.specs.Counts.{counts_line};
-ghost use Rattle.cfarm_run.specs.TextTold.{HasCounted, IsTold, Printed};
+ghost use Rattle.cfarm_run.specs.TextTold.{HasCounted, IsTextFault, Printed};
 
 use crate::command_error::CommandError;
 use c_checker_rules::CProgram;
@@ -27,7 +27,7 @@ pub fn check_text<W: Write>(alloc: Global, text: &[u8], out: &mut W) -> Result<(
     // The text is accepted, and its counts are printed.
     ensures accepted { OnOk result (HasCounted text.now (W.contents out.old) (W.contents out.new)) }
     // A refusal tells the first fault of the text.
-    ensures refused { IfErr result (λ fault. IsTold text.now fault) }
+    ensures refused { IfErr result (λ fault. IsTextFault text.now fault) }
     // Where the text is refused, or there is no memory, nothing is printed; a writer that fails holds a beginning of what
     // an accepted text prints.
     ensures printed { IfErr result (λ fault. Printed text.now fault (W.contents out.old) (W.contents out.new)) }

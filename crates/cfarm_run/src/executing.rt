@@ -1,5 +1,5 @@
 ghost use Rattle.std.specs.Prelude.{◌≡◌, false, IfOk, IfErr, OnOk};
-ghost use Rattle.cfarm_run.specs.ExecTold.{HasRun, IsTold, Ran};
+ghost use Rattle.cfarm_run.specs.ExecTold.{HasRun, IsExecFault, Ran};
 
 use crate::exec_error::ExecError;
 use crate::reading::read_whole;
@@ -24,7 +24,7 @@ pub fn exec<W: Write>(
     ensures handed { OnOk result (out.new.is_held ≡ false) }
     // Bytes are refused only where they spell no program, by the number for bytes behind one where there are such, and
     // then nothing is printed; a run that is broken off wrote a beginning of the output.
-    ensures refused { IfErr result (λ fault. IsTold bytes.now fault) }
+    ensures refused { IfErr result (λ fault. IsExecFault bytes.now fault) }
     ensures beginning { IfErr result (λ f. Ran bytes.now limit f (W.contents out.old.taker) (W.contents out.new.taker)) }
 {
     let program = read_whole(alloc, bytes)?;

@@ -1,5 +1,5 @@
 ghost use Rattle.std.specs.Prelude.{◌≡◌, false, IfOk, IfErr, OnOk};
-ghost use Rattle.cfarm_run.specs.TextTold.{HasRun, IsTold, Ran};
+ghost use Rattle.cfarm_run.specs.TextTold.{HasRun, IsTextFault, Ran};
 
 use crate::command_error::CommandError;
 use c_meaning::run;
@@ -24,7 +24,7 @@ pub fn interpret<W: Write>(
     ensures handed { OnOk result (out.new.is_held ≡ false) }
     // A refusal tells the first fault of the text, and prints nothing; a run that is broken off wrote a
     // beginning of the output.
-    ensures refused { IfErr result (λ fault. IsTold text.now fault) }
+    ensures refused { IfErr result (λ fault. IsTextFault text.now fault) }
     ensures beginning { IfErr result (λ f. Ran text.now depth f (W.contents out.old.taker) (W.contents out.new.taker)) }
 {
     let program = accept(alloc, text)?;

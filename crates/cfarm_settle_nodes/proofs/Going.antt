@@ -12,7 +12,7 @@ use Rattle.rooms_seat_state.specs.SeatState.{SeatState}
 use Rattle.rooms_seat_state.specs.Would.{would, act_of, proposed_by_step, Acted}
 use Rattle.rooms_seat.specs.Meeting.{Remains}
 use Rattle.rooms.specs.SeatValue.{SeatValue, offer_of}
-use Rattle.cfarm_settle_nodes.specs.Goes.{IsSameSeat, OffersFor, GoesOn, SeesNoMore}
+use Rattle.cfarm_settle_nodes.specs.Goes.{IsSameSeat, OffersFor, SeatGoesOn, SeesNoMore}
 
 -- ---- words
 
@@ -79,10 +79,10 @@ module _ {T : Type 0} where
 -- ---- turns
 
 module _ {F G C : Type 0} (f : F) where
-  pub goes_nowhere : (s : SeatValue (Parts F G C)) → GoesOn f s s
+  pub goes_nowhere : (s : SeatValue (Parts F G C)) → SeatGoesOn f s s
   goes_nowhere s = record { room = same_room s.words; cells = refl; own = λ o. o }
 
-  pub goes_through : (a b c : SeatValue (Parts F G C)) → GoesOn f a b → GoesOn f b c → GoesOn f a c
+  pub goes_through : (a b c : SeatValue (Parts F G C)) → SeatGoesOn f a b → SeatGoesOn f b c → SeatGoesOn f a c
   goes_through a b c h k =
       record {
         room = through_room a.words b.words c.words h.room k.room;
@@ -94,7 +94,7 @@ module _ {F G C : Type 0} (f : F) where
   keeps_own : (a b : SeatValue (Parts F G C)) → offer_of b b.words.node.me ≡ offer_of a a.words.node.me → OffersFor f a → OffersFor f b
   keeps_own a b e o x is = o x (sym e ∙ is)
 
-  pub stays_on : (a b : SeatValue (Parts F G C)) → SeesNoMore a b → GoesOn f a b
+  pub stays_on : (a b : SeatValue (Parts F G C)) → SeesNoMore a b → SeatGoesOn f a b
   stays_on a b h =
       record {
         room = h.room;
@@ -103,7 +103,7 @@ module _ {F G C : Type 0} (f : F) where
       }
 
   -- a seat that has read cells, and seen of its own what it had seen
-  pub read_on : (a b : SeatValue (Parts F G C)) → b.words ≡ a.words → offer_of b a.words.node.me ≡ offer_of a a.words.node.me → names_of b.sights ≡ names_of a.sights → GoesOn f a b
+  pub read_on : (a b : SeatValue (Parts F G C)) → b.words ≡ a.words → offer_of b a.words.node.me ≡ offer_of a a.words.node.me → names_of b.sights ≡ names_of a.sights → SeatGoesOn f a b
   read_on a b same own names =
       record {
         room = same_if a.words b.words same;

@@ -6,7 +6,7 @@ use Rattle.offers.specs.declared.parts.Parts.{Parts}
 use Rattle.rooms.specs.SeatValue.{SeatValue}
 use Rattle.farm_nodes_threads_pace.specs.After.{After}
 use Rattle.farm_nodes_threads_teams.specs.Taken.{HasTaken}
-use Rattle.cfarm_settle_nodes.specs.Goes.{AreSeatsFor, GoesOn}
+use Rattle.cfarm_settle_nodes.specs.Goes.{AreSeatsFor, SeatGoesOn}
 use Rattle.cfarm_settle_nodes.specs.Nodes.{AreNodes, HasTurned}
 use Rattle.cfarm_settle_nodes.proofs.Going.{goes_nowhere, goes_through}
 use Rattle.cfarm_settle_nodes.proofs.Three.{all_offer, three_go}
@@ -32,17 +32,17 @@ module _ {N F G C : Type 0} (seat : N → SeatValue (Parts F G C)) (input : N �
       let x = h.0 in
       let before = turned_all taken n x h.1 in (
         h.2.0 ∙ before.0,
-        goes_through (input n) (seat n) (seat x) (seat m) before.1 (subst (λ f. GoesOn f (seat x) (seat m)) before.0 h.2.1),
+        goes_through (input n) (seat n) (seat x) (seat m) before.1 (subst (λ f. SeatGoesOn f (seat x) (seat m)) before.0 h.2.1),
       )
 
   abbrev Taken : ℕ → N → N → Type 0
   Taken most n m = HasTaken Turned (λ x. ⊤) most n m
 
   -- what is known of a node of this input that has taken turns
-  went : (f : F) (most : ℕ) (n m : N) → input n ≡ f → Taken most n m → (input m ≡ f) × GoesOn f (seat n) (seat m)
+  went : (f : F) (most : ℕ) (n m : N) → input n ≡ f → Taken most n m → (input m ≡ f) × SeatGoesOn f (seat n) (seat m)
   went f most n m is h =
       let t = turned_all h.taken n m h.after in
-      (t.0 ∙ is, subst (λ x. GoesOn x (seat n) (seat m)) is t.1)
+      (t.0 ∙ is, subst (λ x. SeatGoesOn x (seat n) (seat m)) is t.1)
 
   three_went : (f : F) (most : ℕ) (xs ys : List N) (h : AreNodes seat input f xs) → AllZip (Taken most) (h.first ∷ h.second ∷ h.third ∷ []) ys → AreNodes seat input f ys
   three_went f most xs [] h z = absurd z

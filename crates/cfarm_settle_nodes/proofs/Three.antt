@@ -9,12 +9,12 @@ use Rattle.offers.specs.OneFunction.{program_of_one}
 use Rattle.offers.specs.declared.parts.Parts.{Parts}
 use Rattle.rooms.specs.SeatValue.{SeatValue, offer_of}
 use Rattle.cfarm_settle_nodes.specs.Agreed.{IsOwnOffer, IsOfferOf, IsCode, IsCodeOf, IsOwnCode, IsAgreed}
-use Rattle.cfarm_settle_nodes.specs.Goes.{AllOfferFor, AreThree, GoesOn, IsSeatOf, SeesNoMore}
+use Rattle.cfarm_settle_nodes.specs.Goes.{AllOfferFor, AreThree, SeatGoesOn, IsSeatOf, SeesNoMore}
 use Rattle.cfarm_settle_nodes.specs.Learned.{IsLearnedByAll}
 use Rattle.cfarm_settle_nodes.proofs.Going.{stays_on}
 
 module _ {F G C : Type 0} (f : F) where
-  seat_goes : (board : RoomAt) (shelf : List ℕ) (i : ℕ) (a b : SeatValue (Parts F G C)) → IsSeatOf board shelf i a → GoesOn f a b → IsSeatOf board shelf i b
+  seat_goes : (board : RoomAt) (shelf : List ℕ) (i : ℕ) (a b : SeatValue (Parts F G C)) → IsSeatOf board shelf i a → SeatGoesOn f a b → IsSeatOf board shelf i b
   seat_goes board shelf i a b s h =
       record {
         table = h.room.table ∙ s.table;
@@ -24,7 +24,7 @@ module _ {F G C : Type 0} (f : F) where
         quorums = h.room.quorums ∙ s.quorums;
       }
 
-  pub three_go : (a b c x y z : SeatValue (Parts F G C)) → AreThree a b c → GoesOn f a x → GoesOn f b y → GoesOn f c z → AreThree x y z
+  pub three_go : (a b c x y z : SeatValue (Parts F G C)) → AreThree a b c → SeatGoesOn f a x → SeatGoesOn f b y → SeatGoesOn f c z → AreThree x y z
   three_go a b c x y z s h k l =
       record {
         board = s.board;
@@ -34,7 +34,7 @@ module _ {F G C : Type 0} (f : F) where
         third = seat_goes s.board s.shelf 2 c z s.third l;
       }
 
-  pub all_offer : (a b c x y z : SeatValue (Parts F G C)) → AllOfferFor f a b c → GoesOn f a x → GoesOn f b y → GoesOn f c z → AllOfferFor f x y z
+  pub all_offer : (a b c x y z : SeatValue (Parts F G C)) → AllOfferFor f a b c → SeatGoesOn f a x → SeatGoesOn f b y → SeatGoesOn f c z → AllOfferFor f x y z
   all_offer a b c x y z s h k l = record { first = h.own s.first; second = k.own s.second; third = l.own s.third }
 
   -- the offer of one of them is for this input

@@ -25,7 +25,7 @@ abbrev pub OffersFor : {F G C : Type 0} → F → SeatValue (Parts F G C) → Ty
 OffersFor {F} {G} {C} f s = (x : Parts F G C) → offer_of s s.words.node.me ≡ Some x → x.input ≡ f
 
 -- the seat is the same node's, in the same room, and what it offers is for this input
-pub record GoesOn {F G C : Type 0} (f : F) (old new : SeatValue (Parts F G C)) : Type 0 where
+pub record SeatGoesOn {F G C : Type 0} (f : F) (old new : SeatValue (Parts F G C)) : Type 0 where
   pub room : IsSameSeat old.words new.words
   pub cells : names_of new.sights ≡ names_of old.sights
   pub own : OffersFor f old → OffersFor f new

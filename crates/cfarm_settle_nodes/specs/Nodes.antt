@@ -2,11 +2,11 @@
 use Rattle.std.specs.Prelude.{◌≡◌, List, [], ◌∷◌, Option, IfSome}
 use Rattle.offers.specs.declared.parts.Parts.{Parts}
 use Rattle.rooms.specs.SeatValue.{SeatValue}
-use Rattle.cfarm_settle_nodes.specs.Goes.{AreSeatsFor, GoesOn}
+use Rattle.cfarm_settle_nodes.specs.Goes.{AreSeatsFor, SeatGoesOn}
 
 -- a turn leaves the node its input, and its seat goes on
 abbrev pub HasTurned : {F G C : Type 0} → F → F → SeatValue (Parts F G C) → SeatValue (Parts F G C) → Type 0
-HasTurned f g old new = (g ≡ f) × GoesOn f old new
+HasTurned f g old new = (g ≡ f) × SeatGoesOn f old new
 
 -- each of the three is this
 abbrev pub AreAll : {F : Type 0} → F → F × F × F → Type 0

@@ -3,7 +3,7 @@
 ghost use Rattle.std.specs.Prelude.{◌≡◌, ◌<◌, ◌≢◌, IfErr};
 ghost use Rattle.rooms_cells.specs.Seen.{names_of};
 ghost use Rattle.rooms.specs.SeatValue.{offer_of};
-ghost use Rattle.cfarm_settle_nodes.specs.Goes.{GoesOn, SeesNoMore};
+ghost use Rattle.cfarm_settle_nodes.specs.Goes.{SeatGoesOn, SeesNoMore};
 
 use crate::offering::offer_for;
 use crate::player::{Player, Seen};
@@ -23,7 +23,7 @@ fn has_offered<P: Pass>(seat: &Seat<P>) -> bool {
 
 /// Puts the node's offer into its cell, where it has made none.
 fn put<P: Pass>(alloc: Global, seat: &mut Seat<P>, made: Offer<P>) -> Result<(), NoMemory>
-    ensures { GoesOn made.input seat.old seat.new }
+    ensures { SeatGoesOn made.input seat.old seat.new }
 {
     let Ok(shared) = Arc::new(alloc, made) else {
         return Err(NoMemory);
@@ -41,13 +41,13 @@ fn offer<O: Oracle + Drop>(
     player: &mut Player<O>,
     input: &<<O::P as Pass>::In as Language>::Fun,
 ) -> Result<(), PassError>
-    ensures seat { GoesOn input.now seat.old seat.new }
+    ensures seat { SeatGoesOn input.now seat.old seat.new }
     ensures refused { IfErr result (λ e. e ≢ PassError.NoMemory → O.P.too_large input.now) }
 {
     if has_offered(seat) {
         return Ok(());
     }
-    let made = match offer_for(alloc, &mut player.oracle, input, &mut player.words) {
+    let made = match offer_for(alloc, &mut player.oracle, input, &mut player.draws) {
         Ok(made) => made,
         Err(fault) => return Err(fault),
     };
@@ -96,13 +96,13 @@ fn hear_all<P: Pass>(seat: &mut Seat<P>, seen: &mut Seen) -> bool
 
 /// Whether the node is to start a ballot: it has offered and not learned, what it has under way, if anything, is below what it has
 /// promised, and its next word is a multiple of 4.
-fn is_due<P: Pass>(seat: &Seat<P>, words: &mut Pcg32) -> bool {
+fn is_due<P: Pass>(seat: &Seat<P>, draws: &mut Pcg32) -> bool {
     let kept = seat.kept();
     let is_free = match seat.ballot() {
         None => true,
         Some(ballot) => ballot < kept.promised(),
     };
-    kept.offered() && seat.learned().is_none() && is_free && words.next_word() % 4 == 0
+    kept.offered() && seat.learned().is_none() && is_free && draws.next_word() % 4 == 0
 }
 
 /// Starts a ballot, if one is left.
@@ -113,11 +113,11 @@ fn start<P: Pass>(seat: &mut Seat<P>)
 }
 
 /// Proposes, and starts a ballot where that is due.
-fn lead<P: Pass>(seat: &mut Seat<P>, words: &mut Pcg32)
+fn lead<P: Pass>(seat: &mut Seat<P>, draws: &mut Pcg32)
     ensures { SeesNoMore seat.old seat.new }
 {
     let _proposed = seat.propose();
-    if !is_due(seat, words) {
+    if !is_due(seat, draws) {
         return;
     }
     start(seat);
@@ -140,11 +140,11 @@ fn fetch<P: Pass>(seat: &mut Seat<P>)
 }
 
 /// What a node does in a turn once it has offered. Answers whether it saw anything new.
-fn act<P: Pass>(seat: &mut Seat<P>, seen: &mut Seen, words: &mut Pcg32) -> bool
-    ensures { (f : P.In.Fun) → GoesOn f seat.old seat.new }
+fn act<P: Pass>(seat: &mut Seat<P>, seen: &mut Seen, draws: &mut Pcg32) -> bool
+    ensures { (f : P.In.Fun) → SeatGoesOn f seat.old seat.new }
 {
     let is_new = hear_all(seat, seen);
-    lead(seat, words);
+    lead(seat, draws);
     fetch(seat);
     is_new
 }
@@ -156,11 +156,11 @@ pub(crate) fn turn<O: Oracle + Drop>(
     player: &mut Player<O>,
     input: &<<O::P as Pass>::In as Language>::Fun,
 ) -> Result<bool, PassError>
-    ensures seat { GoesOn input.now seat.old seat.new }
+    ensures seat { SeatGoesOn input.now seat.old seat.new }
     ensures refused { IfErr result (λ e. e ≢ PassError.NoMemory → O.P.too_large input.now) }
 {
     match offer(alloc, seat, player, input) {
-        Ok(()) => Ok(act(seat, &mut player.seen, &mut player.words)),
+        Ok(()) => Ok(act(seat, &mut player.seen, &mut player.draws)),
         Err(fault) => Err(fault),
     }
 }

@@ -51,12 +51,12 @@ pub(crate) fn offer_for<O: Oracle>(
     alloc: Global,
     oracle: &mut O,
     input: &<<O::P as Pass>::In as Language>::Fun,
-    words: &mut Pcg32,
+    draws: &mut Pcg32,
 ) -> Result<Offer<O::P>, PassError>
     ensures input { IfOk result (λ offer. offer.input ≡ input.now) }
     ensures refused { IfErr result (λ e. e ≢ PassError.NoMemory → O.P.too_large input.now) }
 {
-    match oracle.propose(alloc, input, words) {
+    match oracle.propose(alloc, input, draws) {
         Ok(proposed) => chosen(alloc, input, proposed),
         Err(_) => Err(PassError::NoMemory),
     }

@@ -9,7 +9,7 @@ use rooms_words::proposer::ProposerWord;
 #[derive(Drop)]
 pub(crate) struct Player<O: Oracle + Drop> {
     pub oracle: O,
-    pub words: Pcg32,
+    pub draws: Pcg32,
     pub seen: Seen,
 }
 
@@ -18,7 +18,7 @@ impl<O: Oracle + Drop> Player<O> {
     pub(crate) fn new(oracle: O, me: u8) -> Self {
         Player {
             oracle,
-            words: Pcg32::new(1, u64::from(me)),
+            draws: Pcg32::new(1, u64::from(me)),
             seen: Seen::new(),
         }
     }

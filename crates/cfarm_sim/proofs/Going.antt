@@ -15,7 +15,7 @@ use Rattle.paxos_core.specs.Schedule.{Room, NodeCall, played, room_after, IsSche
 use Rattle.cfarm_sim_lines.specs.Commands.{line_of, IsHead, IsInWords}
 use Rattle.cfarm_sim.specs.Plays.{asked, IsAsked, AreDone, printed, closing, HasObeyed, IsLine, IsNoCommand, IsShown, StopsAt}
 use Rattle.cfarm_sim.specs.Rooms.{start, told_by}
-use Rattle.cfarm_sim_lines.specs.Texts.{text_of, IsLeft, IsTextOf, first_line}
+use Rattle.cfarm_sim_lines.specs.Texts.{text_of, IsLeft, IsScheduleText, first_line}
 use Rattle.cfarm_sim.specs.Told.{told_text}
 use Rattle.cfarm_sim_lines.specs.declared.command.Command.{Command}
 use Rattle.cfarm_sim_lines.specs.declared.command.Command.TheVariants as command
@@ -224,7 +224,7 @@ ends text q number rest room before now after last so none runs settled is more 
   commands = so.commands;
   calls = so.calls;
   says = so.says;
-  lines = elim so.left as (λ _. IsTextOf text so.head so.commands) [
+  lines = elim so.left as (λ _. IsScheduleText text so.head so.commands) [
     | inl left ↦ inl (left ∙ ap (λ l. text_of so.head so.commands ++ l) none ∙ append-nil (text_of so.head so.commands))
     | inr whole ↦ inr whole.1
   ];

@@ -12,7 +12,7 @@ use Rattle.paxos_core.specs.Call.{Offer, Start, Proposal, On, Restart}
 use Rattle.paxos_core.specs.Schedule.{Room, NodeCall, played, room_after, IsPlayed}
 use Rattle.cfarm_sim_lines.specs.Commands.{line_of, IsHead}
 use Rattle.cfarm_sim.specs.Rooms.{Listed, room_of, start, told_by}
-use Rattle.cfarm_sim_lines.specs.Texts.{IsTextOf, IsLeft, text_of, first_line}
+use Rattle.cfarm_sim_lines.specs.Texts.{IsScheduleText, IsLeft, text_of, first_line}
 use Rattle.cfarm_sim.specs.Told.{told_text}
 use Rattle.cfarm_sim_lines.specs.declared.command.Command.{Command}
 use Rattle.cfarm_sim_lines.specs.declared.command.Command.TheVariants as command
@@ -73,7 +73,7 @@ pub record IsShown (text : List ℕ) (before after : Option (List ℕ)) : Type 0
   pub commands : List Command
   pub calls : List NodeCall
   pub says : IsHead head quorums
-  pub lines : IsTextOf text head commands
+  pub lines : IsScheduleText text head commands
   pub done : AreDone quorums commands calls
   pub run : IsPlayed quorums no_nodes calls
   pub output : Appends before after (printed quorums calls ++ closing quorums (played (start quorums) calls))

@@ -13,8 +13,8 @@ text_of head [] = head ++ 10 ∷ []
 text_of head (c ∷ cs) = text_of head cs ++ (line_of c ++ 10 ∷ [])
 
 -- these are all the lines of the text
-abbrev pub IsTextOf : List ℕ → List ℕ → List Command → Type 0
-IsTextOf text head commands = (text ≡ text_of head commands) ⊎ (text ++ 10 ∷ [] ≡ text_of head commands)
+abbrev pub IsScheduleText : List ℕ → List ℕ → List Command → Type 0
+IsScheduleText text head commands = (text ≡ text_of head commands) ⊎ (text ++ 10 ∷ [] ≡ text_of head commands)
 
 -- what is left of the text behind the lines that were read
 abbrev pub IsLeft : List ℕ → List ℕ → List Command → List ℕ → Type 0

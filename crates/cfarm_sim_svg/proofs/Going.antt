@@ -12,7 +12,7 @@ use Rattle.cfarm_sim.specs.Rooms.{Listed, room_of, start, told_by}
 use Rattle.cfarm_sim.specs.declared.told.Told.{Told}
 use Rattle.cfarm_sim.proofs.Going.{asked_was_sent, delivered, next_left, no_command, node_in}
 use Rattle.cfarm_sim_lines.specs.Commands.{line_of, IsHead, IsInWords}
-use Rattle.cfarm_sim_lines.specs.Texts.{text_of, IsLeft, IsTextOf, first_line}
+use Rattle.cfarm_sim_lines.specs.Texts.{text_of, IsLeft, IsScheduleText, first_line}
 use Rattle.cfarm_sim_lines.specs.declared.command.Command.{Command}
 use Rattle.cfarm_sim_lines.specs.declared.command.Command.TheVariants.{Offer, Start, Propose, Restart, Deliver}
 use Rattle.cfarm_sim_svg_shapes.specs.Handed.{handed, has_come, node_of}
@@ -183,7 +183,7 @@ ends text p rest so none runs settled =
         commands = so.commands;
         calls = so.calls;
         says = so.says;
-        lines = elim so.left as (λ _. IsTextOf text so.head so.commands) [
+        lines = elim so.left as (λ _. IsScheduleText text so.head so.commands) [
           | inl left ↦ inl (left ∙ ap (λ l. text_of so.head so.commands ++ l) none ∙ append-nil (text_of so.head so.commands))
           | inr whole ↦ inr whole.1
         ];

@@ -35,8 +35,8 @@ pub fn all_offers(
     ensures chained { IfOk result (λ offers. AllGoOn functions.now offers.items) }
     ensures accepted { IfOk result (λ offers. All AreAccepted offers.items) }
     ensures counted { IfOk result (λ offers. AreCounted maker.old.proposals maker.new.proposals offers.items) }
-    ensures stays { maker.old.words ≡ None → maker.new ≡ maker.old }
-    ensures alone { maker.old.words ≡ None → IfOk result (λ offers. All AreBaselines offers.items) }
+    ensures stays { maker.old.draws ≡ None → maker.new ≡ maker.old }
+    ensures alone { maker.old.draws ≡ None → IfOk result (λ offers. All AreBaselines offers.items) }
     ensures refused { All (λ f. f.function.registers ≤ 2048) functions.now → IfErr result IsNoMemory }
 {
     let mut offers = Vec::with_capacity(alloc, functions.len())?;
@@ -62,8 +62,8 @@ pub fn compile(
     // Which offers are linked.
     ensures is { IfOk result
         (IsCompiled maker.old.proposals maker.new.proposals (gen (low (program_tree program.now)))) }
-    ensures baselines { maker.old.words ≡ None → IfOk result (IsBaselineProgram (gen (low (program_tree program.now)))) }
-    ensures stays { maker.old.words ≡ None → maker.new ≡ maker.old }
+    ensures baselines { maker.old.draws ≡ None → IfOk result (IsBaselineProgram (gen (low (program_tree program.now)))) }
+    ensures stays { maker.old.draws ≡ None → maker.new ≡ maker.old }
 
     // Where memory is not wanting, it is refused exactly where a function needs too many nodes.
     ensures few { OnOk result (All HasFewNodes (low (program_tree program.now)).functions) }

@@ -23,33 +23,33 @@ use rand_pcg::Pcg32;
 use rtl_language::Function;
 use std::alloc::Global;
 
-/// Who makes the offers: the baselines of all passes, where there are no words, or their optimisers, which draw their
-/// choices from the words. It counts how many of the offers were the optimisers'; the others are baselines'.
+/// Who makes the offers: the baselines of all passes, where there are no draws, or their optimisers, which draw their
+/// choices from the draws. It counts how many of the offers were the optimisers'; the others are baselines'.
 #[derive(Drop)]
 pub struct Maker {
-    pub words: Option<Pcg32>,
+    pub draws: Option<Pcg32>,
     pub proposals: u64,
 }
 
 impl Maker {
     /// The baselines of all passes: nothing is chosen.
     pub fn baselines() -> Maker
-        ensures words { result.words ≡ None }
+        ensures draws { result.draws ≡ None }
         ensures none { result.proposals ≡ 0 }
     {
         Maker {
-            words: None,
+            draws: None,
             proposals: 0,
         }
     }
 
     /// The optimisers of all passes.
-    pub fn optimisers(words: Pcg32) -> Maker
-        ensures words { result.words ≡ Some words }
+    pub fn optimisers(draws: Pcg32) -> Maker
+        ensures draws { result.draws ≡ Some draws }
         ensures none { result.proposals ≡ 0 }
     {
         Maker {
-            words: Some(words),
+            draws: Some(draws),
             proposals: 0,
         }
     }
@@ -65,20 +65,20 @@ impl Maker {
         ensures baseline { IfOk result (λ made. IsElseBaseline B.is_baseline made.is_proposal made.offer) }
         ensures counted { IfOk result (λ made. Counts self.old.proposals self.new.proposals (one_if made.is_proposal)) }
 
-        // With no words all are baselines, and the maker stays as it was.
-        ensures stays { self.old.words ≡ None → self.new ≡ self.old }
-        ensures alone { self.old.words ≡ None → IfOk result (λ made. made.is_proposal ≡ false) }
+        // With no draws all are baselines, and the maker stays as it was.
+        ensures stays { self.old.draws ≡ None → self.new ≡ self.old }
+        ensures alone { self.old.draws ≡ None → IfOk result (λ made. made.is_proposal ≡ false) }
 
         // Only what has no baseline is refused.
         ensures refused { IfErr result (λ e. e ≢ PassError.NoMemory → P.too_large input.now) }
     {
-        let Some(words) = &mut self.words else {
+        let Some(draws) = &mut self.draws else {
             return Ok(Choice {
                 offer: baseline_of::<P, B>(alloc, input)?,
                 is_proposal: false,
             });
         };
-        let made = choose::<P, B, O>(alloc, oracle, input, words)?;
+        let made = choose::<P, B, O>(alloc, oracle, input, draws)?;
         if made.is_proposal {
             self.proposals = self.proposals.saturating_add(1);
         }
@@ -99,8 +99,8 @@ fn behind<T: Drop, L: Pass, P: Pass<In = <L as Pass>::Out>, B: Baselines<P>, O: 
     ensures input { IfOk result (λ made. made.2.offer.input ≡ last.output) }
     ensures baseline { IfOk result (λ made. IsElseBaseline B.is_baseline made.2.is_proposal made.2.offer) }
     ensures counted { IfOk result (λ made. Counts maker.old.proposals maker.new.proposals (one_if made.2.is_proposal)) }
-    ensures stays { maker.old.words ≡ None → maker.new ≡ maker.old }
-    ensures alone { maker.old.words ≡ None → IfOk result (λ made. made.2.is_proposal ≡ false) }
+    ensures stays { maker.old.draws ≡ None → maker.new ≡ maker.old }
+    ensures alone { maker.old.draws ≡ None → IfOk result (λ made. made.2.is_proposal ≡ false) }
     ensures refused { IfErr result (λ e. e ≢ PassError.NoMemory → P.too_large last.output) }
 {
     let next = maker.offer_of::<P, B, O>(alloc, oracle, last.output())?;
@@ -117,8 +117,8 @@ pub(crate) fn offers_of(
     ensures chained { IfOk result (λ offers. GoOnFrom function.now offers) }
     ensures accepted { IfOk result AreAccepted }
     ensures counted { IfOk result (IsCounted maker.old.proposals maker.new.proposals) }
-    ensures stays { maker.old.words ≡ None → maker.new ≡ maker.old }
-    ensures alone { maker.old.words ≡ None → IfOk result AreBaselines }
+    ensures stays { maker.old.draws ≡ None → maker.new ≡ maker.old }
+    ensures alone { maker.old.draws ≡ None → IfOk result AreBaselines }
     ensures refused { IfErr result (λ e. e ≢ PassError.NoMemory → IsTooLarge function.now) }
 {
     let first = maker.offer_of::<ConstProp, ExactBaselines, ConstOracle>(

@@ -1,7 +1,7 @@
 //! Readers of statements that have no statements in them.
 
 ghost use Rattle.lang_base.specs.Reading.{Reads};
-ghost use Rattle.cminor_form.specs.Reading.{statement_of, expression, assign, store, arguments, call, put, returned};
+ghost use Rattle.cminor_form.specs.Reading.{statement_of, expression, assign, store, arguments, call, put, read_result};
 ghost use Rattle.cminor_codec.specs.Results.{expressions_of, row_of, maybe_of};
 ghost use Rattle.cminor_codec.specs.Parts.{expressions, behind_code};
 
@@ -107,14 +107,14 @@ fn read_put(
 }
 
 /// What a return gives, if anything.
-#[tactic(auto, unfolding(cminor_form::specs::Reading::returned))]
+#[tactic(auto, unfolding(cminor_form::specs::Reading::read_result))]
 fn read_returned(
     alloc: Global,
     fuel: u16,
     variables: u16,
     bytes: &mut &[u8],
 ) -> Result<Option<Expression>, FormError>
-    ensures { Reads (returned (expression fuel variables) bytes.old.now) (maybe_of result) bytes.new.now }
+    ensures { Reads (read_result (expression fuel variables) bytes.old.now) (maybe_of result) bytes.new.now }
 {
     match read_byte(bytes)? {
         0 => Ok(None),

@@ -17,7 +17,7 @@ use Rattle.lang_helpers.proofs.Limits.{global_form, function_number_form}
 use Rattle.cminor_syntax.specs.Trees.{ExpressionTree, StatementTree, StatementsTree, FunctionTree, Skip, Assign, Store, Call, Put, Sequence, If, Loop, Block, Exit, Return, Done, First}
 use Rattle.cminor_syntax.specs.Fits.{ExpressionFits, MaybeFits, TargetFits, statement_count, StatementFits, StatementsFit, arguments_height, maybe_height, statement_height, statements_height, global_limit, function_limit, variable_limit, height_limit, IsFunction}
 use Rattle.cminor_form.specs.Spelling.{expression_text, target_text, arguments_text, statement_text, statements_text, frame_text, spelling}
-use Rattle.cminor_form.specs.Reading.{variable, target, skip, assign, store, arguments, call, put, returned, plain_statements, plain_statement, sequence_of, sequence, branch, statements, statement_by_code, expression, statement, frame, parts, function}
+use Rattle.cminor_form.specs.Reading.{variable, target, skip, assign, store, arguments, call, put, read_result, plain_statements, plain_statement, sequence_of, sequence, branch, statements, statement_by_code, expression, statement, frame, parts, function}
 use Rattle.cminor_form.proofs.ExpressionForms.{text_form, no_fuel_form, variable_form, ExpressionFitsAt, expression_form}
 
 -- ---- what follows a code in a table
@@ -201,8 +201,8 @@ module _ (variables : ℕ) (few : variables ≤ 2 ^ 16) (part : Reading Expressi
   unfolding put
   put_takes = made_takes (λ (p : Option ℕ × ExpressionTree). Put p.0 p.1) put_parts body_of (Behind 4) (λ p fits. (refl, (fits, refl)))
 
-  returned_form : IsForm (returned part) (optional_text expression_text) (MaybeFits Fits)
-  unfolding returned
+  returned_form : IsForm (read_result part) (optional_text expression_text) (MaybeFits Fits)
+  unfolding read_result
   returned_form = maybe_form Fits part_form
 
   plain_takes : (code : ℕ) → Reads code (plain_statement variables part code)

@@ -14,7 +14,7 @@ use Rattle.cminor_syntax.specs.Fits.{variable_limit, height_limit}
 use Rattle.cminor_syntax.specs.declared.expression.Expression.{Expression}
 use Rattle.cminor_syntax.specs.declared.statement.Statement.{Statement}
 
--- what a reader of trees returned
+-- the expression that a `return` gives, or none
 abbrev pub expression_of : Result Expression FormError → Result ExpressionTree FormError
 expression_of (Ok e) = Ok (expression_tree e)
 expression_of (Err fault) = Err fault
@@ -93,8 +93,8 @@ call variables part bytes = made (λ p. Call p.0 p.1.0 p.1.1) (both function_num
 unfoldable pub put : ℕ → Reading ExpressionTree → Reading StatementTree
 put variables part bytes = made (λ p. Put p.0 p.1) (both (target variables) (λ t. part)) bytes
 
-unfoldable pub returned : Reading ExpressionTree → Reading (Option ExpressionTree)
-returned part bytes = optional part bytes
+unfoldable pub read_result : Reading ExpressionTree → Reading (Option ExpressionTree)
+read_result part bytes = optional part bytes
 
 abbrev pub plain_statements : ℕ → Reading ExpressionTree → Table StatementTree
 plain_statements variables part =
@@ -104,7 +104,7 @@ plain_statements variables part =
     (3, call variables part) ∷
     (4, put variables part) ∷
     (9, made (λ n. Exit n) (number w16)) ∷
-    (10, made (λ e. Return e) (returned part)) ∷ []
+    (10, made (λ e. Return e) (read_result part)) ∷ []
 
 unfoldable pub plain_statement : ℕ → Reading ExpressionTree → ℕ → Reading StatementTree
 plain_statement variables part code bytes = follow (plain_statements variables part) unknown code bytes

@@ -25,7 +25,7 @@ use Rattle.c_checker_rules.specs.Terms.{variable_term, unary_term, binary_term, 
 use Rattle.c_checker_rules.specs.Calls.{Functions, is_putchar, first_of, number_of, call_given, value_given}
 use Rattle.c_checker_rules.specs.Locals.{Here, left, with_local}
 use Rattle.c_checker_rules.specs.Statements.{with_start, after}
-use Rattle.c_checker_rules.specs.Actions.{target_of, declared, change_action, set_action, start_action, condition, step_action, returned, action_of, actions_of}
+use Rattle.c_checker_rules.specs.Actions.{target_of, declared, change_action, set_action, start_action, condition, step_action, return_action, action_of, actions_of}
 use Rattle.cminor_syntax.specs.Fits as F
 use Rattle.cminor_lowering.specs.Terms.{low_term}
 use Rattle.cminor_lowering.specs.Actions.{low_given, low_action, low_actions}
@@ -201,7 +201,7 @@ declared_low : (n : ℕ) (f : Functions) (scope : Scope) (k : ℕ) (v : Option V
 declared_low n f scope k None = omega arith
 declared_low n f scope k (Some v) = omega (arith, give_value_low n (G.Local k) f scope v)
 
-returned_low : (n : ℕ) (f : Functions) (scope : Scope) (v : Option ValueTree) → action_height n (returned f scope v) ≤ 5 * suc (H.optional_height H.value_height v)
+returned_low : (n : ℕ) (f : Functions) (scope : Scope) (v : Option ValueTree) → action_height n (return_action f scope v) ≤ 5 * suc (H.optional_height H.value_height v)
 returned_low n f scope None = omega arith
 returned_low n f scope (Some v) = omega (arith, give_value_low n G.Caller f scope v)
 

@@ -18,7 +18,7 @@ use Rattle.c_checker_rules.specs.Expressions.{variable_faults, expression_faults
 use Rattle.c_checker_rules.specs.Calls.{Functions, value_faults}
 use Rattle.c_checker_rules.specs.Locals.{Here, left, deeper, looping, local_faults, with_local}
 use Rattle.c_checker_rules.specs.Statements.{with_start, after, after_all, optional_faults, set_faults, start_faults, return_faults, statement_faults, statements_faults}
-use Rattle.c_checker_rules.specs.Actions.{target_of, declared, change_action, set_action, start_action, condition, step_action, returned, action_of, actions_of}
+use Rattle.c_checker_rules.specs.Actions.{target_of, declared, change_action, set_action, start_action, condition, step_action, return_action, action_of, actions_of}
 use Rattle.cminor_syntax.specs.Fits.{StatementFits, StatementsFit, statement_count}
 use Rattle.cminor_lowering.specs.Actions.{low_action, low_actions}
 use Rattle.cminor_lowering.specs.Held.{HasWords, IsHeld, AreHeld, action_count}
@@ -86,7 +86,7 @@ module _ (n : ℕ) (f : Functions) (known : FunctionsFit f) where
   declared_fits scope k (Some v) there fits none words = (omega arith, (tt, (give_fits n (G.Local k) _ there (value_fits n f scope v known fits none words.1.1.0), tt)))
 
   returned_fits : (scope : Scope) (result : ReturnType) (at : ℕ) (v : Option ValueTree) → ScopeFits n scope → return_faults f scope result at v ≡ [] →
-      IsHeld (returned f scope v) → ActionFits n (returned f scope v)
+      IsHeld (return_action f scope v) → ActionFits n (return_action f scope v)
   returned_fits scope result at None fits none words = tt
   returned_fits scope R.Void at (Some v) fits none words = absurd cc
   returned_fits scope (R.Value t) at (Some v) fits none words = give_fits n G.Caller _ tt (value_fits n f scope v known fits none words)

@@ -101,7 +101,7 @@ impl MemoryDisk {
 
     /// A disk that a crash now may leave, with as much capacity anew, with no call that is to fail, and which does not
     /// stop. Each write that was not synced is lost, done, mixed with what was there, or garbage, as the words choose.
-    pub fn crash(&self, alloc: Global, words: &mut Pcg32) -> Result<MemoryDisk, NoMemory>
+    pub fn crash(&self, alloc: Global, draws: &mut Pcg32) -> Result<MemoryDisk, NoMemory>
         ensures image { IfOk result (λ disk. memory_may_leave self.now (seen_by_memory disk)) }
         ensures settled { IfOk result IsSettled }
         ensures capacity { IfOk result (KeepsCapacity self.now) }
@@ -114,7 +114,7 @@ impl MemoryDisk {
             &self.calls,
             &self.written,
             self.synced,
-            words,
+            draws,
         )?;
         MemoryDisk::holding(alloc, image, self.call_capacity, self.byte_capacity)
     }

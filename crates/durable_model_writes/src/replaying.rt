@@ -18,7 +18,7 @@ pub fn torn_image(
     calls: &[Call],
     written: &[u8],
     synced: usize,
-    words: &mut Pcg32,
+    draws: &mut Pcg32,
 ) -> Result<Vec<u8>, NoMemory>
     ensures { IfOk result (λ image. MayLeave (noted calls.now written.now []) first.now image.items) }
 {
@@ -26,7 +26,7 @@ pub fn torn_image(
     let mut seen = first.to_vec(alloc)?;
     let rest = redo_all(&mut seen, done, written)?;
     let mut image = seen.to_vec(alloc)?;
-    tear_all(&mut image, &mut seen, loose, rest, words)?;
+    tear_all(&mut image, &mut seen, loose, rest, draws)?;
     Ok(image)
 }
 
@@ -53,14 +53,14 @@ fn tear_all(
     seen: &mut Vec<u8>,
     calls: &[Call],
     written: &[u8],
-    words: &mut Pcg32,
+    draws: &mut Pcg32,
 ) -> Result<(), AllocError>
     ensures { OnOk result (TearsAll calls.now written.now seen.old.items image.old.items image.new.items) }
 {
     let mut rest = written;
     for call in calls {
         let (bytes, later) = split_at_call(*call, rest);
-        tear_call(image, seen, *call, bytes, words)?;
+        tear_call(image, seen, *call, bytes, draws)?;
         redo(seen, *call, bytes)?;
         rest = later;
     }
@@ -94,13 +94,13 @@ fn tear_call(
     seen: &[u8],
     call: Call,
     bytes: &[u8],
-    words: &mut Pcg32,
+    draws: &mut Pcg32,
 ) -> Result<(), AllocError>
     ensures { OnOk result (Tears call bytes.now seen.now image.old.items image.new.items) }
 {
     match call {
-        Call::Wrote(at, _) => tear(image, at, bytes, words),
-        Call::Tore(at, n) => garble(image, at, n, &[], words),
+        Call::Wrote(at, _) => tear(image, at, bytes, draws),
+        Call::Tore(at, n) => garble(image, at, n, &[], draws),
         Call::Synced => hold(image, seen),
         Call::Left => Ok(()),
     }

@@ -13,15 +13,15 @@ pub fn tear(
     file: &mut Vec<u8>,
     at: usize,
     bytes: &[u8],
-    words: &mut Pcg32,
+    draws: &mut Pcg32,
 ) -> Result<(), AllocError>
     ensures { OnOk result (Torn at (length bytes.now) file.old.items file.new.items) }
 {
-    match words.next_word() % 4 {
+    match draws.next_word() % 4 {
         0 => Ok(()),
         1 => overwrite(file, at, bytes),
-        2 => garble(file, at, bytes.len(), bytes, words),
-        _ => garble(file, at, bytes.len(), &[], words),
+        2 => garble(file, at, bytes.len(), bytes, draws),
+        _ => garble(file, at, bytes.len(), &[], draws),
     }
 }
 
@@ -31,7 +31,7 @@ pub fn garble(
     at: usize,
     n: usize,
     bytes: &[u8],
-    words: &mut Pcg32,
+    draws: &mut Pcg32,
 ) -> Result<(), AllocError>
     ensures { OnOk result (Torn at n file.old.items file.new.items) }
 {
@@ -42,11 +42,11 @@ pub fn garble(
         return Err(AllocError);
     };
     let from = at.min(file.len());
-    grow(file, end, words)?;
+    grow(file, end, draws)?;
     let to = end.min(file.len());
     for i in from..to {
         let done = i.checked_sub(at).and_then(|k| bytes.get(k)).copied();
-        let byte = torn_byte(file[i], done, words.next_word());
+        let byte = torn_byte(file[i], done, draws.next_word());
         file[i] = byte;
     }
     Ok(())
@@ -62,13 +62,13 @@ fn torn_byte(old: u8, done: Option<u8>, word: u32) -> u8 {
 }
 
 /// Grows the file to some length up to an end.
-fn grow(file: &mut Vec<u8>, end: usize, words: &mut Pcg32) -> Result<(), AllocError>
+fn grow(file: &mut Vec<u8>, end: usize, draws: &mut Pcg32) -> Result<(), AllocError>
     ensures { OnOk result (Grown end file.old.items file.new.items) }
 {
     if end <= file.len() {
         return Ok(());
     }
-    let more = words.next_word() as usize % (end - file.len()) + 1;
+    let more = draws.next_word() as usize % (end - file.len()) + 1;
     let longer = file.len() + more;
     lengthen(file, longer)
 }

@@ -9,7 +9,7 @@ use Rattle.durable_model.specs.Honest.{Only}
 use Rattle.durable_pair_held.specs.declared.held.Held.{Held}
 use Rattle.durable_pair_held.specs.declared.noted.Noted.{Noted}
 use Rattle.durable_pair_files.specs.declared.file.FilePair.{FilePair}
-use Rattle.durable_pair_held.specs.Past.{Past, Leaves, of_new, of_old, DoesNew, DoesOld, seen_new, seen_old, may_leave_new, may_leave_old}
+use Rattle.durable_pair_held.specs.Past.{Past, IsLeftBehind, of_new, of_old, DoesNew, DoesOld, seen_new, seen_old, may_leave_new, may_leave_old}
 use Rattle.durable_pair_held.specs.Held.{past_of, CanNoteMore, syncs_due}
 use Rattle.durable_pair_files.specs.OnFiles.{FilesDoNew, FilesDoOld}
 use Rattle.durable_pair_held.proofs.Noting.{new_stands, old_stands}
@@ -67,10 +67,10 @@ module _ (p q : Past) where
 -- files that were opened rest
 module _ (p : Past) (none : p.notes ≡ []) where
   pub opened_new : Only (seen_new p) (may_leave_new p)
-  opened_new c left = subst (λ (notes : List Noted). Leaves (of_new notes) p.new c) none left
+  opened_new c left = subst (λ (notes : List Noted). IsLeftBehind (of_new notes) p.new c) none left
 
   pub opened_old : Only (seen_old p) (may_leave_old p)
-  opened_old c left = subst (λ (notes : List Noted). Leaves (of_old notes) p.old c) none left
+  opened_old c left = subst (λ (notes : List Noted). IsLeftBehind (of_old notes) p.old c) none left
 
 -- what a call says of its failures, where it failed, and of its success
 pub of_err : {T E P : Type 0} (r : Result T E) → is_err r ≡ true → OnErr r P → P

@@ -13,18 +13,18 @@ use Rattle.durable_pair_held.specs.declared.noted.Step.{Step}
 use Rattle.durable_pair_held.specs.declared.noted.Step.TheVariants.{Write, Sync}
 use Rattle.durable_pair_held.specs.declared.noted.Noted.{Noted}
 use Rattle.durable_pair_held.specs.declared.noted.Noted.TheVariants.{New, Old}
-use Rattle.durable_pair_held.specs.Past.{Content, before, back, Leaves, of_new, of_old, Past, more_new, more_old, PutsOver, seen_new, seen_old, may_leave_new, may_leave_old, may_leave_both, moment, LeftSince, DoesNew, DoesOld, both_as_kept}
+use Rattle.durable_pair_held.specs.Past.{Content, before, back, IsLeftBehind, of_new, of_old, Past, more_new, more_old, PutsOver, seen_new, seen_old, may_leave_new, may_leave_old, may_leave_both, moment, LeftSince, DoesNew, DoesOld, both_as_kept}
 use Rattle.durable_pair_held.proofs.Undone.{written_before}
 
 module _ (p : Past) (step : Step) (f : Content) where
   -- a moment before the last step, or this one: of the new file
   module _ (was : before step f ≡ p.new) (t : ℕ) (im : Images) where
     new_cut : (later earlier : List Noted) → New step ∷ p.notes ≡ later ++ earlier → t ≤ length earlier
-        → Leaves (of_new earlier) (back (of_new later) f) im.0 → Leaves (of_old earlier) (back (of_old later) p.old) im.1
+        → IsLeftBehind (of_new earlier) (back (of_new later) f) im.0 → IsLeftBehind (of_old earlier) (back (of_old later) p.old) im.1
         → LeftSince p t im ⊎ may_leave_both (more_new step f p) im
     new_cut [] earlier whole since left old_left = inr (
-      subst (λ (notes : List Noted). Leaves (of_new notes) f im.0) (sym whole) left,
-      subst (λ (notes : List Noted). Leaves (of_old notes) p.old im.1) (sym whole) old_left,
+      subst (λ (notes : List Noted). IsLeftBehind (of_new notes) f im.0) (sym whole) left,
+      subst (λ (notes : List Noted). IsLeftBehind (of_old notes) p.old im.1) (sym whole) old_left,
     )
     new_cut (note ∷ later) earlier whole since left old_left =
         let last : New step ≡ note = cc in
@@ -34,9 +34,9 @@ module _ (p : Past) (step : Step) (f : Content) where
           earlier = earlier;
           whole = rest;
           since = since;
-          left = subst (λ (c : Content). Leaves (of_new earlier) (back (of_new later) c) im.0) was
-              (subst (λ (x : Noted). Leaves (of_new earlier) (back (of_new (x ∷ later)) f) im.0) (sym last) left);
-          old_left = subst (λ (x : Noted). Leaves (of_old earlier) (back (of_old (x ∷ later)) p.old) im.1) (sym last) old_left;
+          left = subst (λ (c : Content). IsLeftBehind (of_new earlier) (back (of_new later) c) im.0) was
+              (subst (λ (x : Noted). IsLeftBehind (of_new earlier) (back (of_new (x ∷ later)) f) im.0) (sym last) left);
+          old_left = subst (λ (x : Noted). IsLeftBehind (of_old earlier) (back (of_old (x ∷ later)) p.old) im.1) (sym last) old_left;
         })
 
     new_more : LeftSince p t im → LeftSince (more_new step f p) t im
@@ -45,18 +45,18 @@ module _ (p : Past) (step : Step) (f : Content) where
       earlier = cut.earlier;
       whole = ap (λ (notes : List Noted). New step ∷ notes) cut.whole;
       since = cut.since;
-      left = subst (λ (c : Content). Leaves (of_new cut.earlier) (back (of_new cut.later) c) im.0) (sym was) cut.left;
+      left = subst (λ (c : Content). IsLeftBehind (of_new cut.earlier) (back (of_new cut.later) c) im.0) (sym was) cut.left;
       old_left = cut.old_left;
     }
 
   -- the same of the old one
   module _ (was : before step f ≡ p.old) (t : ℕ) (im : Images) where
     old_cut : (later earlier : List Noted) → Old step ∷ p.notes ≡ later ++ earlier → t ≤ length earlier
-        → Leaves (of_new earlier) (back (of_new later) p.new) im.0 → Leaves (of_old earlier) (back (of_old later) f) im.1
+        → IsLeftBehind (of_new earlier) (back (of_new later) p.new) im.0 → IsLeftBehind (of_old earlier) (back (of_old later) f) im.1
         → LeftSince p t im ⊎ may_leave_both (more_old step f p) im
     old_cut [] earlier whole since left old_left = inr (
-      subst (λ (notes : List Noted). Leaves (of_new notes) p.new im.0) (sym whole) left,
-      subst (λ (notes : List Noted). Leaves (of_old notes) f im.1) (sym whole) old_left,
+      subst (λ (notes : List Noted). IsLeftBehind (of_new notes) p.new im.0) (sym whole) left,
+      subst (λ (notes : List Noted). IsLeftBehind (of_old notes) f im.1) (sym whole) old_left,
     )
     old_cut (note ∷ later) earlier whole since left old_left =
         let last : Old step ≡ note = cc in
@@ -66,9 +66,9 @@ module _ (p : Past) (step : Step) (f : Content) where
           earlier = earlier;
           whole = rest;
           since = since;
-          left = subst (λ (x : Noted). Leaves (of_new earlier) (back (of_new (x ∷ later)) p.new) im.0) (sym last) left;
-          old_left = subst (λ (c : Content). Leaves (of_old earlier) (back (of_old later) c) im.1) was
-              (subst (λ (x : Noted). Leaves (of_old earlier) (back (of_old (x ∷ later)) f) im.1) (sym last) old_left);
+          left = subst (λ (x : Noted). IsLeftBehind (of_new earlier) (back (of_new (x ∷ later)) p.new) im.0) (sym last) left;
+          old_left = subst (λ (c : Content). IsLeftBehind (of_old earlier) (back (of_old later) c) im.1) was
+              (subst (λ (x : Noted). IsLeftBehind (of_old earlier) (back (of_old (x ∷ later)) f) im.1) (sym last) old_left);
         })
 
     old_more : LeftSince p t im → LeftSince (more_old step f p) t im
@@ -78,13 +78,13 @@ module _ (p : Past) (step : Step) (f : Content) where
       whole = ap (λ (notes : List Noted). Old step ∷ notes) cut.whole;
       since = cut.since;
       left = cut.left;
-      old_left = subst (λ (c : Content). Leaves (of_old cut.earlier) (back (of_old cut.later) c) im.1) (sym was) cut.old_left;
+      old_left = subst (λ (c : Content). IsLeftBehind (of_old cut.earlier) (back (of_old cut.later) c) im.1) (sym was) cut.old_left;
     }
 
   -- what a step does, where its call sees and leaves so
   module _ (call : Call) (bytes : List ℕ) where
     pub new_does : before step f ≡ p.new → Sees call bytes (seen_new p) f.0
-        → ((c : List ℕ) → Leaves (step ∷ of_new p.notes) f c → history.Leaves call bytes (may_leave_new p) (seen_new p) c)
+        → ((c : List ℕ) → IsLeftBehind (step ∷ of_new p.notes) f c → history.MayLeave call bytes (may_leave_new p) (seen_new p) c)
         → DoesNew call bytes p (more_new step f p)
     new_does was sees leaves = record {
       sees = sees;
@@ -99,7 +99,7 @@ module _ (p : Past) (step : Step) (f : Content) where
     }
 
     pub old_does : before step f ≡ p.old → Sees call bytes (seen_old p) f.0
-        → ((c : List ℕ) → Leaves (step ∷ of_old p.notes) f c → history.Leaves call bytes (may_leave_old p) (seen_old p) c)
+        → ((c : List ℕ) → IsLeftBehind (step ∷ of_old p.notes) f c → history.MayLeave call bytes (may_leave_old p) (seen_old p) c)
         → DoesOld call bytes p (more_old step f p)
     old_does was sees leaves = record {
       sees = sees;
@@ -115,13 +115,13 @@ module _ (p : Past) (step : Step) (f : Content) where
 
 -- what a write leaves, done or torn
 wrote_leaves : (steps : List Step) (f was : Content) (step : Step) (at : ℕ) (bytes : List ℕ) (len : ℕ) → step ≡ Write at (length bytes) len → before step f ≡ was
-    → f.0 ≡ overwritten was.0 at bytes → Leaves steps was was.0 → (c : List ℕ) → Leaves (step ∷ steps) f c
-    → history.Leaves (Wrote at (length bytes)) bytes (Leaves steps was) was.0 c
+    → f.0 ≡ overwritten was.0 at bytes → IsLeftBehind steps was was.0 → (c : List ℕ) → IsLeftBehind (step ∷ steps) f c
+    → history.MayLeave (Wrote at (length bytes)) bytes (IsLeftBehind steps was) was.0 c
 wrote_leaves steps f was step at bytes len is undone now here c left =
     let undo : before (Write at (length bytes) len) f ≡ was = ap (λ (s : Step). before s f) (sym is) ∙ undone in
-    elim (subst (λ (s : Step). Leaves (s ∷ steps) f c) is left) [
+    elim (subst (λ (s : Step). IsLeftBehind (s ∷ steps) f c) is left) [
       | inl done ↦ (was.0, here, subst (Torn at (length bytes) was.0) (sym (done ∙ now)) (torn_overwritten was.0 at bytes))
-      | inr torn ↦ (torn.0, subst (λ (g : Content). Leaves steps g torn.0) undo torn.1, torn.2)
+      | inr torn ↦ (torn.0, subst (λ (g : Content). IsLeftBehind steps g torn.0) undo torn.1, torn.2)
     ]
 
 module _ (p q : Past) (step : Step) (f : Content) (at : ℕ) (bytes : List ℕ) where

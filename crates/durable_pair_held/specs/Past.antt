@@ -32,10 +32,10 @@ back (last ∷ earlier) f = back earlier (before last f)
 
 -- What a crash may leave after these, the last first: what a read gives, and after a write what a crash before it might have
 -- left, torn by it.
-abbrev pub Leaves : List Step → Content → List ℕ → Type 0
-Leaves [] f c = c ≡ f.0
-Leaves (Write at n len ∷ earlier) f c = (c ≡ f.0) ⊎ ((d : List ℕ) × Leaves earlier (unwritten at n len f) d × Torn at n d c)
-Leaves (Sync ∷ earlier) f c = c ≡ f.0
+abbrev pub IsLeftBehind : List Step → Content → List ℕ → Type 0
+IsLeftBehind [] f c = c ≡ f.0
+IsLeftBehind (Write at n len ∷ earlier) f c = (c ≡ f.0) ⊎ ((d : List ℕ) × IsLeftBehind earlier (unwritten at n len f) d × Torn at n d c)
+IsLeftBehind (Sync ∷ earlier) f c = c ≡ f.0
 
 -- what was done to the new file, and to the old one
 abbrev pub of_new : List Noted → List Step
@@ -76,10 +76,10 @@ seen_old p = p.old.0
 
 -- what a crash now may leave of the new file, of the old one, and of both
 abbrev pub may_leave_new : Past → List ℕ → Type 0
-may_leave_new p = Leaves (of_new p.notes) p.new
+may_leave_new p = IsLeftBehind (of_new p.notes) p.new
 
 abbrev pub may_leave_old : Past → List ℕ → Type 0
-may_leave_old p = Leaves (of_old p.notes) p.old
+may_leave_old p = IsLeftBehind (of_old p.notes) p.old
 
 abbrev pub may_leave_both : Past → Images → Type 0
 may_leave_both = Both may_leave_new may_leave_old
@@ -94,8 +94,8 @@ pub record LeftSince (p : Past) (t : ℕ) (im : Images) : Type 0 where
   pub earlier : List Noted
   pub whole : p.notes ≡ later ++ earlier
   pub since : t ≤ length earlier
-  pub left : Leaves (of_new earlier) (back (of_new later) p.new) im.0
-  pub old_left : Leaves (of_old earlier) (back (of_old later) p.old) im.1
+  pub left : IsLeftBehind (of_new earlier) (back (of_new later) p.new) im.0
+  pub old_left : IsLeftBehind (of_old earlier) (back (of_old later) p.old) im.1
 
 -- a crash now leaves an old file that counts no more
 abbrev pub OldIsSpent : Past → Type 0
@@ -116,7 +116,7 @@ abbrev pub DoesOld : Call → List ℕ → Past → Past → Type 0
 DoesOld = Does moment LeftSince may_leave_both seen_old may_leave_old seen_new may_leave_new
 
 -- a crash now leaves what reads give, if it so happens
-leaves_seen : (steps : List Step) (f : Content) → Leaves steps f f.0
+leaves_seen : (steps : List Step) (f : Content) → IsLeftBehind steps f f.0
 leaves_seen [] f = refl
 leaves_seen (Write at n len ∷ earlier) f = inl refl
 leaves_seen (Sync ∷ earlier) f = refl
@@ -131,11 +131,11 @@ both_count_now p t im since left =
 
 -- since this moment there is no other
 none_since : (p : Past) (im : Images) (later earlier : List Noted) → p.notes ≡ later ++ earlier → later ≡ []
-    → Leaves (of_new earlier) (back (of_new later) p.new) im.0 → Leaves (of_old earlier) (back (of_old later) p.old) im.1
+    → IsLeftBehind (of_new earlier) (back (of_new later) p.new) im.0 → IsLeftBehind (of_old earlier) (back (of_old later) p.old) im.1
     → may_leave_both p im
 none_since p im [] earlier whole none left old_left = (
-  subst (λ (notes : List Noted). Leaves (of_new notes) p.new im.0) (sym whole) left,
-  subst (λ (notes : List Noted). Leaves (of_old notes) p.old im.1) (sym whole) old_left,
+  subst (λ (notes : List Noted). IsLeftBehind (of_new notes) p.new im.0) (sym whole) left,
+  subst (λ (notes : List Noted). IsLeftBehind (of_old notes) p.old im.1) (sym whole) old_left,
 )
 none_since p im (note ∷ later) earlier whole none left old_left = absurd (omega (arith, ap length none))
 

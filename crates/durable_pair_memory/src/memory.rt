@@ -90,14 +90,14 @@ impl MemoryPair {
 
     /// A pair that a crash now may leave, with as much capacity anew, with no call that is to fail, and which does not
     /// stop.
-    pub fn crash(&self, alloc: Global, words: &mut Pcg32) -> Result<MemoryPair, NoMemory>
+    pub fn crash(&self, alloc: Global, draws: &mut Pcg32) -> Result<MemoryPair, NoMemory>
         ensures images { IfOk result (λ pair. may_leave_both self.now (seen_new pair, seen_old pair)) }
         ensures settled { IfOk result AreSettled }
         ensures none_fails { IfOk result NeitherFails }
         ensures whole { IfOk result (λ pair. pair_faults pair ≡ 0) }
     {
-        let fresh = self.fresh.crash(alloc, words)?;
-        let former = self.former.crash(alloc, words)?;
+        let fresh = self.fresh.crash(alloc, draws)?;
+        let former = self.former.crash(alloc, draws)?;
         Ok(MemoryPair {
             fresh,
             former,

@@ -49,8 +49,8 @@ impl<P: Pair + Drop, O: Drop, H: Naming> Farm<P, O, H> {
         ensures source { IfOk result (λ farm. IsSourceOf text.now farm.source) }
         ensures program { IfOk result (λ farm. AllCompile (arc_value farm.source.translated) farm.nodes.items) }
         ensures oracles { IfOk result (λ farm. map (λ n. n.oracles) farm.nodes.items ≡ oracles.items) }
-        ensures words { IfOk result (λ farm.
-            map (λ n. n.words) farm.nodes.items ≡ generators seed (length pairs.items)) }
+        ensures draws { IfOk result (λ farm.
+            map (λ n. n.draws) farm.nodes.items ≡ generators seed (length pairs.items)) }
 
         // Each has the journal on its pair, and may be asked; none is stopped. The rooms open from what the journals have acknowledged.
         ensures journals { IfOk result (HasJournalsOn P.Disk P.Pair.own quorums pairs.items) }
@@ -93,8 +93,8 @@ impl<P: Pair + Drop, O: Drop, H: Naming> Farm<P, O, H> {
         ensures source { IfOk result (λ farm. farm.source ≡ source) }
         ensures program { IfOk result (λ farm. AllCompile (arc_value farm.source.translated) farm.nodes.items) }
         ensures oracles { IfOk result (λ farm. map (λ n. n.oracles) farm.nodes.items ≡ oracles.items) }
-        ensures words { IfOk result (λ farm.
-            map (λ n. n.words) farm.nodes.items ≡ generators seed (length pairs.items)) }
+        ensures draws { IfOk result (λ farm.
+            map (λ n. n.draws) farm.nodes.items ≡ generators seed (length pairs.items)) }
 
         // Each has the journal on its pair, and may be asked; none is stopped. The rooms open from what the journals have acknowledged.
         ensures journals { IfOk result (HasJournalsOn P.Disk P.Pair.own quorums pairs.items) }

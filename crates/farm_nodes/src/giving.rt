@@ -33,11 +33,11 @@ impl Oracles for Optimisers {
         &mut self,
         alloc: Global,
         input: &rtl_language::Function,
-        words: &mut Pcg32,
+        draws: &mut Pcg32,
     ) -> Result<Option<(rtl_language::Function, farm_nodes_open_nodes::FactLists)>, NoMemory> {
         match self {
-            Optimisers::Drawn => ConstOracle.propose(alloc, input, words),
-            Optimisers::Speed => ConstSpeed.propose(alloc, input, words),
+            Optimisers::Drawn => ConstOracle.propose(alloc, input, draws),
+            Optimisers::Speed => ConstSpeed.propose(alloc, input, draws),
         }
     }
 
@@ -45,11 +45,11 @@ impl Oracles for Optimisers {
         &mut self,
         alloc: Global,
         input: &rtl_language::Function,
-        words: &mut Pcg32,
+        draws: &mut Pcg32,
     ) -> Result<Option<(rtl_language::Function, oracle_cse::EquationLists)>, NoMemory> {
         match self {
-            Optimisers::Drawn => CseOracle.propose(alloc, input, words),
-            Optimisers::Speed => CseSpeed.propose(alloc, input, words),
+            Optimisers::Drawn => CseOracle.propose(alloc, input, draws),
+            Optimisers::Speed => CseSpeed.propose(alloc, input, draws),
         }
     }
 
@@ -57,11 +57,11 @@ impl Oracles for Optimisers {
         &mut self,
         alloc: Global,
         input: &rtl_language::Function,
-        words: &mut Pcg32,
+        draws: &mut Pcg32,
     ) -> Result<Option<(ltl::Function, farm_nodes_open_nodes::EquationLists)>, NoMemory> {
         match self {
-            Optimisers::Drawn => AllocOracle.propose(alloc, input, words),
-            Optimisers::Speed => AllocSpeed.propose(alloc, input, words),
+            Optimisers::Drawn => AllocOracle.propose(alloc, input, draws),
+            Optimisers::Speed => AllocSpeed.propose(alloc, input, draws),
         }
     }
 
@@ -69,11 +69,11 @@ impl Oracles for Optimisers {
         &mut self,
         alloc: Global,
         input: &ltl::Function,
-        words: &mut Pcg32,
+        draws: &mut Pcg32,
     ) -> Result<Option<(linear_language::Function, Order)>, NoMemory> {
         match self {
-            Optimisers::Drawn => OrderOracle.propose(alloc, input, words),
-            Optimisers::Speed => OrderSpeed.propose(alloc, input, words),
+            Optimisers::Drawn => OrderOracle.propose(alloc, input, draws),
+            Optimisers::Speed => OrderSpeed.propose(alloc, input, draws),
         }
     }
 }

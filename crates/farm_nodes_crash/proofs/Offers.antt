@@ -34,7 +34,7 @@ use Rattle.farm_nodes_turn_passes.specs.declared.which.Which.TheVariants.{Consta
 use Rattle.farm_nodes_turn_node.specs.declared.halted.Halted.{Halted}
 use Rattle.farm_nodes_turn_offer.specs.Pending.{IsOfferText}
 use Rattle.paxos_core_world.specs.KeptPart.{KeptPart}
-use Rattle.farm_nodes_turn_order.specs.OfferIn.{offer_in}
+use Rattle.farm_nodes_turn_order.specs.OfferIn.{last_offer_in}
 use Rattle.farm_nodes_turn_order.proofs.Told.{stands_alone, told_offered}
 use Rattle.farm_nodes_restart_seat.proofs.Places.{some_same, there_is}
 use Rattle.farm_nodes_open_stored.specs.Stored.{HasNoParts}
@@ -147,11 +147,11 @@ told_are n i rooms rs seats size ordered leave k r room text at is =
     let here : slice_get rs k ≡ Some (Offered room text) = at ∙ ap (λ (x : Record). Some x) is in
     let below : room < rooms = (ordered k (Offered room text) here).0 in
     let s = there_is seats (function_of room) (omega (arith, below, size)) in
-    let first : offer_in rs room ≡ Some text = stands_alone n i rooms rs k room text ordered here in
+    let first : last_offer_in rs room ≡ Some text = stands_alone n i rooms rs k room text ordered here in
     let now : (words_of s.0 (pass_of room)).node.kept.offered ≡ true =
     ap (λ (x : KeptPart). x.offered) (sym (leave.rooms room s.0 s.1)) ∙ told_offered rs room text first in
     let one = leave.offers room s.0 s.1 now in
-    let same : one.0 ≡ text = some_same (offer_in rs room) one.0 text one.1 first in
+    let same : one.0 ≡ text = some_same (last_offer_in rs room) one.0 text one.1 first in
     own_has (pass_of room) s.0 text (subst (λ (t : List ℕ). IsOwnTextIn pass_texts (pass_of room) s.0 t) same one.2)
 
 of_one : (r entry : Record) (k : ℕ) → slice_get (r ∷ []) k ≡ Some entry → r ≡ entry

@@ -61,8 +61,8 @@ module _ (m : ℕ) (s : SeatState) (upto : List Record) (leave : kept_in upto m 
           subst (λ (u : SeatState). IsAmong u.node.quorums.nodes a) (same e) among,
           kept_own upto (record_of room step) m (room_of_step room step ∙ e)
               ∙ (kept_step room step (kept_in upto m)
-              ∙ (ap (λ (k : KeptPart). core.kept_by (Some step) k) leave
-              ∙ ap (λ (x : Option Step). core.kept_by x s.node.kept) (told ∙ ap (λ (u : SeatState). would u a) (same e)))),
+              ∙ (ap (λ (k : KeptPart). core.kept_by_step (Some step) k) leave
+              ∙ ap (λ (x : Option Step). core.kept_by_step x s.node.kept) (told ∙ ap (λ (u : SeatState). would u a) (same e)))),
         ))
     step_at a step told among (inr d) =
         inl (kept_other upto (record_of room step) m (λ e. d (sym (room_of_step room step) ∙ e)) ∙ leave)

@@ -5,7 +5,7 @@ use Rattle.lang_base.specs.declared.program.Named as code
 use Rattle.rtl_language.specs.Function.{FunctionData}
 use Rattle.linker.specs.Chains.{IsChain, HasChain, AllChained, made_of, all_made_of}
 use Rattle.farm_nodes_link.specs.Lent.{Chain, Named, lent, lent_beside}
-use Rattle.farm_nodes_link.specs.Offered.{GoesOn, AllGoOn, end_of, ends_of}
+use Rattle.farm_nodes_link.specs.Offered.{ChainsFrom, AllGoOn, end_of, ends_of}
 use Rattle.farm_nodes_link.specs.Refused.{IsBroken, IsFirstBroken}
 
 -- what is made is the output of the fourth offer
@@ -20,7 +20,7 @@ all_ends (f ∷ functions) [] = refl
 all_ends (f ∷ functions) (n ∷ named) = λ i. one_end f.name n.chain i ++ all_ends functions named i
 
 -- what is lent chains where the offers go on
-has_chain : (f : FunctionData) (chain : Option Chain) → GoesOn f (lent chain) → HasChain f chain
+has_chain : (f : FunctionData) (chain : Option Chain) → ChainsFrom f (lent chain) → HasChain f chain
 has_chain f None go = absurd go
 has_chain f (Some chain) go = record { first = go.constants; second = go.expressions; third = go.allocation; fourth = go.order }
 
@@ -31,7 +31,7 @@ chained (f ∷ functions) [] go = absurd go
 chained (f ∷ functions) (n ∷ named) go = (has_chain f.function n.chain go.0, chained functions named go.1)
 
 -- and nowhere else
-goes_on : (f : FunctionData) (chain : Option Chain) → HasChain f chain → GoesOn f (lent chain)
+goes_on : (f : FunctionData) (chain : Option Chain) → HasChain f chain → ChainsFrom f (lent chain)
 goes_on f None is = absurd is
 goes_on f (Some chain) is = record { constants = is.first; expressions = is.second; allocation = is.third; order = is.fourth }
 

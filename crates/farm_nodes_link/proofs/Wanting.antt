@@ -7,7 +7,7 @@ use Rattle.lang_base.specs.declared.program.Named as code
 use Rattle.rtl_language.specs.Function.{FunctionData}
 use Rattle.farm_nodes_link.specs.Learned.{FourOffers, IsUndecided}
 use Rattle.farm_nodes_link.specs.Lent.{Chain, lent}
-use Rattle.farm_nodes_link.specs.Offered.{GoesOn, AllGoOn}
+use Rattle.farm_nodes_link.specs.Offered.{ChainsFrom, AllGoOn}
 
 -- what is at a place
 pub seen_at : {S T : Type 0} (v : S → T) (seats : List S) (n : ℕ) (s : S) → n < length seats → s ≡ get_or seats n s → slice_get (map v seats) n ≡ Some (v s)
@@ -52,5 +52,5 @@ none_wanting [] (o ∷ learned) k all wanting = all
 none_wanting (f ∷ functions) [] k all wanting = all
 none_wanting (f ∷ functions) (o ∷ learned) zero all wanting =
     let same : o ≡ None = cc wanting in
-    subst (λ p. GoesOn f.function p) same all.0
+    subst (λ p. ChainsFrom f.function p) same all.0
 none_wanting (f ∷ functions) (o ∷ learned) (suc k) all wanting = none_wanting functions learned k all.1 wanting

@@ -14,16 +14,16 @@ pub record GoOnFrom (function : rtl.FunctionData) (offers : FourOffers) : Type 0
   pub order : offers.order.input ≡ offers.allocation.output
 
 -- there are four offers, and they go on from the function
-abbrev pub GoesOn : rtl.FunctionData → Option FourOffers → Type 0
-GoesOn function None = ⊥
-GoesOn function (Some offers) = GoOnFrom function offers
+abbrev pub ChainsFrom : rtl.FunctionData → Option FourOffers → Type 0
+ChainsFrom function None = ⊥
+ChainsFrom function (Some offers) = GoOnFrom function offers
 
 -- function by function, and no more of them
 abbrev pub AllGoOn : List (code.Named rtl.FunctionData) → List (Option FourOffers) → Type 0
 AllGoOn [] [] = Unit {0}
 AllGoOn [] (o ∷ learned) = ⊥
 AllGoOn (f ∷ functions) [] = ⊥
-AllGoOn (f ∷ functions) (o ∷ learned) = GoesOn f.function o × AllGoOn functions learned
+AllGoOn (f ∷ functions) (o ∷ learned) = ChainsFrom f.function o × AllGoOn functions learned
 
 -- the code of a function: the output of the fourth offer, under the function's name
 abbrev pub end_of : List ℕ → Option FourOffers → List (code.Named linear.FunctionData)

@@ -13,7 +13,7 @@ use Rattle.linker.specs.declared.errors.LinkError.TheVariants.{NoMemory, TooMany
 use Rattle.farm_nodes_link.specs.declared.errors.LinkedError.{LinkedError}
 use Rattle.farm_nodes_link.specs.declared.errors.LinkedError.TheVariants.{Undecided, Link}
 use Rattle.farm_nodes_link.specs.Learned.{FourOffers, IsUndecided}
-use Rattle.farm_nodes_link.specs.Offered.{GoOnFrom, GoesOn}
+use Rattle.farm_nodes_link.specs.Offered.{GoOnFrom, ChainsFrom}
 
 -- the number that a user is shown
 abbrev pub number_of_linked_error : LinkedError → ℕ
@@ -30,7 +30,7 @@ abbrev pub IsFirstBroken : List (Named FunctionData) → List (Option FourOffers
 IsFirstBroken [] learned i = ⊥
 IsFirstBroken (f ∷ functions) [] i = ⊥
 IsFirstBroken (f ∷ functions) (o ∷ learned) zero = IsBroken f.function o
-IsFirstBroken (f ∷ functions) (o ∷ learned) (suc i) = GoesOn f.function o × IsFirstBroken functions learned i
+IsFirstBroken (f ∷ functions) (o ∷ learned) (suc i) = ChainsFrom f.function o × IsFirstBroken functions learned i
 
 -- why offers that are learned under these names are not linked; none is ever missing
 abbrev pub IsUnlinked : Program FunctionTree → List (List ℕ) → List (Option FourOffers) → LinkError → Type 0

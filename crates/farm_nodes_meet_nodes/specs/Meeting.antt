@@ -31,7 +31,7 @@ module _ {D O H : Type 0} {h : naming.Ghosts H} where
   -- nothing of a node changes but its seats
   abbrev pub StaysButSeats : FarmNode D O H h → FarmNode D O H h → Type 0
   StaysButSeats old new =
-      (new.log ≡ old.log) × (new.program ≡ old.program) × (new.oracles ≡ old.oracles) × (new.words ≡ old.words)
+      (new.log ≡ old.log) × (new.program ≡ old.program) × (new.oracles ≡ old.oracles) × (new.draws ≡ old.draws)
       × (new.halted ≡ old.halted)
 
   -- its journal stands for what its seats keep, if it did

@@ -31,14 +31,14 @@ module _ {X Z : Type 0} (f : Z → X) where
   as_long zs xs e = sym (length-map zs f) ∙ ap length e
 
 -- generators
-module _ {Z : Type 0} (words : Z → Lcg) (seed : ℕ) where
-  pub no_words : (done : List Z) → done ≡ [] → map words done ≡ generators seed (length done)
-  no_words done none = ap (map words) none ∙ sym (ap (λ zs. generators seed (length zs)) none)
+module _ {Z : Type 0} (draws : Z → Lcg) (seed : ℕ) where
+  pub no_draws : (done : List Z) → done ≡ [] → map draws done ≡ generators seed (length done)
+  no_draws done none = ap (map draws) none ∙ sym (ap (λ zs. generators seed (length zs)) none)
 
-  pub one_word : (done : List Z) {more : List Z} {z : Z} → map words done ≡ generators seed (length done) → more ≡ done ++ z ∷ [] → words z ≡ generator_of seed (length done) → map words more ≡ generators seed (length more)
-  one_word done {more} {z} before more_is one =
+  pub one_draw : (done : List Z) {more : List Z} {z : Z} → map draws done ≡ generators seed (length done) → more ≡ done ++ z ∷ [] → draws z ≡ generator_of seed (length done) → map draws more ≡ generators seed (length more)
+  one_draw done {more} {z} before more_is one =
       let size : suc (length done) ≡ length more = omega (arith, ap length more_is, length_push done z) in
-      ap (map words) more_is ∙ map_push words done z ∙ ap (λ ws. ws ++ words z ∷ []) before
+      ap (map draws) more_is ∙ map_push draws done z ∙ ap (λ ws. ws ++ draws z ∷ []) before
       ∙ ap (λ w. generators seed (length done) ++ w ∷ []) one ∙ ap (generators seed) size
 
 -- what is made

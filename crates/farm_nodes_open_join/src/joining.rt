@@ -47,7 +47,7 @@ fn node_of<D, O, H: Naming>(
     ensures seats { result.seats ≡ pieces.seats }
     ensures program { result.program ≡ pieces.program }
     ensures oracles { result.oracles ≡ pieces.oracles }
-    ensures words { result.words ≡ pieces.words }
+    ensures draws { result.draws ≡ pieces.draws }
     ensures going { result.halted ≡ None }
 {
     let Pieces {
@@ -56,7 +56,7 @@ fn node_of<D, O, H: Naming>(
         seats,
         program,
         oracles,
-        words,
+        draws,
     } = pieces;
     let (log, _records) = journal;
     FarmNode {
@@ -65,7 +65,7 @@ fn node_of<D, O, H: Naming>(
         seats,
         program,
         oracles,
-        words,
+        draws,
         halted: None,
     }
 }
@@ -93,7 +93,7 @@ where
     ensures seats { IfOk result (λ nodes. map (λ n. n.seats) nodes.items ≡ seats.items) }
     ensures oracles { IfOk result (λ nodes. map (λ n. n.oracles) nodes.items ≡ oracles.items) }
     ensures program { IfOk result (λ nodes. AllCompile (arc_value program.now) nodes.items) }
-    ensures words { IfOk result (λ nodes. map (λ n. n.words) nodes.items ≡ generators seed (length journals.items)) }
+    ensures draws { IfOk result (λ nodes. map (λ n. n.draws) nodes.items ≡ generators seed (length journals.items)) }
 
     // Each may be asked, and is not stopped.
     ensures going { IfOk result (λ nodes. All (λ n. n.halted ≡ None) nodes.items) }

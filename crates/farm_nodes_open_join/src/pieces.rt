@@ -17,7 +17,7 @@ pub(crate) struct Pieces<J, S, A, O> {
     pub seats: S,
     pub program: A,
     pub oracles: O,
-    pub words: Pcg32,
+    pub draws: Pcg32,
 }
 
 /// Puts one more behind these, which have capacity for it.
@@ -62,7 +62,7 @@ pub(crate) fn pieces_of<J: Drop, S: Drop, A: Drop, O: Drop>(
     ensures seats { map (λ p. p.seats) result.items ≡ seats.items }
     ensures programs { map (λ p. p.program) result.items ≡ programs.items }
     ensures oracles { map (λ p. p.oracles) result.items ≡ oracles.items }
-    ensures words { map (λ p. p.words) result.items ≡ generators seed (length journals.items) }
+    ensures draws { map (λ p. p.draws) result.items ≡ generators seed (length journals.items) }
 {
     let mut all = spare;
     let mut seats_left = seats.into_iter();
@@ -75,7 +75,7 @@ pub(crate) fn pieces_of<J: Drop, S: Drop, A: Drop, O: Drop>(
             seats: next_of(&mut seats_left),
             program: next_of(&mut programs_left),
             oracles: next_of(&mut oracles_left),
-            words: Pcg32::new(seed, all.len() as u64),
+            draws: Pcg32::new(seed, all.len() as u64),
         };
         put(&mut all, pieces);
     }

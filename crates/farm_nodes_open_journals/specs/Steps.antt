@@ -18,9 +18,9 @@ use Rattle.acceptor_log_migrating.specs.Stands.{CanMigrate}
 use Rattle.farm_nodes_open_journals.specs.Journals.{WasMigrated}
 
 -- the disk that comes back, with the journal or with a refusal
-abbrev pub returned : {D : Type 0} → Result (Log D × Vec Record) (D × LogError) → D
-returned (Ok opened) = opened.0.disk
-returned (Err refused) = refused.0
+abbrev pub opened_disk : {D : Type 0} → Result (Log D × Vec Record) (D × LogError) → D
+opened_disk (Ok opened) = opened.0.disk
+opened_disk (Err refused) = refused.0
 
 -- the bytes of a journal without records on a disk that was empty
 abbrev pub first_text : Header → List ℕ

@@ -5,7 +5,7 @@ ghost use Rattle.durable_model.specs.Honest.{Risen};
 ghost use Rattle.acceptor_log.specs.Acknowledged.{acknowledged, IsSound};
 ghost use Rattle.acceptor_log_migrating.specs.Moving.{IsRefusedFor, IsTurned, Moves};
 ghost use Rattle.farm_nodes_open_journals.specs.Journals.{Opens};
-ghost use Rattle.farm_nodes_open_journals.specs.Steps.{returned, AreMigrated, IsSameOrMigrated};
+ghost use Rattle.farm_nodes_open_journals.specs.Steps.{opened_disk, AreMigrated, IsSameOrMigrated};
 
 use crate::journal::open_journal;
 use crate::listing::list;
@@ -52,20 +52,20 @@ fn open_old<P: Pair>(
 ) -> Result<(Log<P>, Vec<Record>), (P, LogError)>
     requires { 0 < header.now.nodes }
     ensures ok { IfOk result (λ opened. (opened.0.going ≡ true) × (opened.0.header ≡ header.now)) }
-    ensures whole { P.is_whole (returned result) ↔ P.is_whole pair }
+    ensures whole { P.is_whole (opened_disk result) ↔ P.is_whole pair }
     ensures sound { IfOk result (λ opened. IsSound P.is_honest P.seen P.may_leave opened.0) }
     ensures honest { P.is_whole pair → IfOk result (λ opened. P.is_honest opened.0.disk) }
     ensures acknowledged { P.is_whole pair
         → IfOk result (λ opened. acknowledged P.seen opened.0 ≡ opened.1.items) }
     ensures moved { P.is_whole pair → IfOk result (λ opened. AreMigrated P.Pair.own header.now pair opened.1.items) }
     ensures turned { P.is_whole pair → IfOk result (λ opened. IsTurned P.Pair.own pair opened.0.disk) }
-    ensures any_moment { P.is_whole pair → Moves P.Disk P.Pair.own header.now pair (returned result) }
+    ensures any_moment { P.is_whole pair → Moves P.Disk P.Pair.own header.now pair (opened_disk result) }
     ensures refused { P.is_whole pair → IfErr result (λ refused. IsRefusedFor header.now (P.old_seen pair) refused.1) }
     ensures unwritten { P.is_whole pair
         → IfErr result (λ r. IsSameOrMigrated P.Disk P.Pair.own header.now pair r.0 r.1) }
     ensures failed { IfErr result (λ refused. refused.1 ≡ LogError.Device
         → Risen (P.faults pair) (P.faults refused.0)) }
-    ensures later { P.faults pair ≤ P.faults (returned result) }
+    ensures later { P.faults pair ≤ P.faults (opened_disk result) }
     ensures unfailed { IfOk result (λ opened. P.faults opened.0.disk ≡ P.faults pair) }
     ensures unfailed_refused { IfErr result (λ refused. refused.1 ≢ LogError.Device
         → P.faults refused.0 ≡ P.faults pair) }

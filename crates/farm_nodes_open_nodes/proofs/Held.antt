@@ -9,7 +9,7 @@ use Rattle.durable_pair.specs.declared.pair.Pair as pairs
 use Rattle.paxos_core_world.specs.KeptPart.{KeptPart, nothing_kept}
 use Rattle.paxos_core_node_steps.specs.NodeState.{node_with}
 use Rattle.paxos_core_world.specs.Quorum.{AreQuorums, Sizes}
-use Rattle.acceptor_log_form.specs.Leaves.{kept_by, kept_in}
+use Rattle.acceptor_log_form.specs.Leaves.{kept_by_record, kept_in}
 use Rattle.acceptor_log_form.specs.Order.{AreInOrder}
 use Rattle.acceptor_log_form.specs.declared.header.Header.{Header}
 use Rattle.acceptor_log_form.specs.declared.record.Record.{Record}
@@ -161,7 +161,7 @@ module _ {J H : Type 0} {h : naming.Ghosts H} (q : Sizes) (functions : ℕ) (jou
       rooms = λ m s got. ap (λ n. n.kept) (sym (node_is m s got));
       no_others = λ m over.
           let beyond : 4 * functions ≤ m = omega (arith, over, fours_size) in
-          none_of_others kept_by (4 * functions) m j.1.items nothing_kept (of_rooms (length journals) i (4 * functions) j.1.items part.in_order) beyond;
+          none_of_others kept_by_record (4 * functions) m j.1.items nothing_kept (of_rooms (length journals) i (4 * functions) j.1.items part.in_order) beyond;
       offers = λ m s got now.
           let found : (x : NumberedSeat H h) × (slice_get row (function_of m) ≡ Some x) × (four_of x ≡ s) = map_at four_of row (function_of m) s got in
           let low : function_of m < functions = omega (arith, slice_get_within row (function_of m) found.0 found.1, row_size) in

@@ -52,7 +52,7 @@ where
         HaveJournalsOn P.Disk P.Pair.own quorums digest.now pairs.items nodes.items) }
     ensures oracles { IfOk result (λ nodes. map (λ n. n.oracles) nodes.items ≡ oracles.items) }
     ensures program { IfOk result (λ nodes. AllCompile (arc_value program.now) nodes.items) }
-    ensures words { IfOk result (λ nodes. map (λ n. n.words) nodes.items ≡ generators seed (length pairs.items)) }
+    ensures draws { IfOk result (λ nodes. map (λ n. n.draws) nodes.items ≡ generators seed (length pairs.items)) }
     ensures going { IfOk result (λ nodes. All (λ n. n.halted ≡ None) nodes.items) }
     ensures sound { IfOk result (λ nodes. All (HasSoundJournal P.Disk) nodes.items) }
     ensures waiting { IfOk result (λ nodes. All (λ n. IsWaiting n.seats.items n.halted) nodes.items) }

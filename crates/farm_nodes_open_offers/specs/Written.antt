@@ -4,7 +4,7 @@ use Rattle.acceptor_log_form.specs.declared.record.Record.{Record}
 use Rattle.acceptor_log_form.specs.declared.record.Record.TheVariants.{Offered}
 use Rattle.farm_nodes_turn_passes.specs.declared.which.Which.{Which}
 use Rattle.farm_nodes_turn_passes.specs.Numbers.{place_of}
-pub use Rattle.farm_nodes_turn_passes.specs.OfferIn.{offer_by, offer_in}
+pub use Rattle.farm_nodes_turn_passes.specs.OfferIn.{offer_by, last_offer_in}
 
 -- the room and the text of an offer, if the record is one in a room of the pass
 abbrev pub written : Which → Record → Option (ℕ × List ℕ)

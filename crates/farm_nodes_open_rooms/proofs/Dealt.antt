@@ -9,7 +9,7 @@ use Rattle.rooms_table.specs.RoomAt.{RoomAt}
 use Rattle.farm_nodes_open_numbers.specs.SeatState.{opening_of}
 use Rattle.rooms.specs.Opened.{AreDealt, AreOpened}
 use Rattle.rooms.specs.SeatValue.{SeatValue}
-use Rattle.farm_nodes_turn_passes.specs.Opened.{kept_in, AreSeatsOf}
+use Rattle.farm_nodes_turn_passes.specs.Opened.{kept_of_pass, AreSeatsOf}
 use Rattle.farm_nodes_turn_passes.specs.FunctionOffers.{FunctionOffers}
 use Rattle.farm_nodes_turn_passes.specs.FunctionSeat.{FunctionSeat}
 use Rattle.farm_nodes_turn_passes.specs.NumberedSeat.{NumberedSeat}
@@ -26,36 +26,36 @@ abbrev pub as_opened : {T : Type 0} (table : RoomAt) (q : Sizes) (kept : List Ke
 as_opened table q kept offers seats d = record { table = table; cells = d.cells; size = d.size; seats_are = d.seats_are }
 
 module _ (number : ℕ) (q : Sizes) (kept : List (List KeptPart)) (offers : FunctionOffers) (seats : List FunctionSeat) (are : AreSeatsOf number q kept offers seats) where
-  abbrev first_opened : AreOpened q (kept_in 0 kept) offers.first.items (map (λ s. s.first) seats)
-  first_opened = as_opened _ q (kept_in 0 kept) offers.first.items (map (λ s. s.first) seats) are.first
+  abbrev first_opened : AreOpened q (kept_of_pass 0 kept) offers.first.items (map (λ s. s.first) seats)
+  first_opened = as_opened _ q (kept_of_pass 0 kept) offers.first.items (map (λ s. s.first) seats) are.first
 
-  abbrev second_opened : AreOpened q (kept_in 1 kept) offers.second.items (map (λ s. s.second) seats)
-  second_opened = as_opened _ q (kept_in 1 kept) offers.second.items (map (λ s. s.second) seats) are.second
+  abbrev second_opened : AreOpened q (kept_of_pass 1 kept) offers.second.items (map (λ s. s.second) seats)
+  second_opened = as_opened _ q (kept_of_pass 1 kept) offers.second.items (map (λ s. s.second) seats) are.second
 
-  abbrev third_opened : AreOpened q (kept_in 2 kept) offers.third.items (map (λ s. s.third) seats)
-  third_opened = as_opened _ q (kept_in 2 kept) offers.third.items (map (λ s. s.third) seats) are.third
+  abbrev third_opened : AreOpened q (kept_of_pass 2 kept) offers.third.items (map (λ s. s.third) seats)
+  third_opened = as_opened _ q (kept_of_pass 2 kept) offers.third.items (map (λ s. s.third) seats) are.third
 
-  abbrev fourth_opened : AreOpened q (kept_in 3 kept) offers.fourth.items (map (λ s. s.fourth) seats)
-  fourth_opened = as_opened _ q (kept_in 3 kept) offers.fourth.items (map (λ s. s.fourth) seats) are.fourth
+  abbrev fourth_opened : AreOpened q (kept_of_pass 3 kept) offers.fourth.items (map (λ s. s.fourth) seats)
+  fourth_opened = as_opened _ q (kept_of_pass 3 kept) offers.fourth.items (map (λ s. s.fourth) seats) are.fourth
 
   -- they are all of one function
   pub all_one : AreOfOneFunction number seats
   all_one =
       one_function number first_opened.table second_opened.table third_opened.table fourth_opened.table first_opened.cells second_opened.cells third_opened.cells fourth_opened.cells seats
-      (one_room q (kept_in 0 kept) offers.first.items (map (λ s. s.first) seats) first_opened)
-      (one_room q (kept_in 1 kept) offers.second.items (map (λ s. s.second) seats) second_opened)
-      (one_room q (kept_in 2 kept) offers.third.items (map (λ s. s.third) seats) third_opened)
-      (one_room q (kept_in 3 kept) offers.fourth.items (map (λ s. s.fourth) seats) fourth_opened)
+      (one_room q (kept_of_pass 0 kept) offers.first.items (map (λ s. s.first) seats) first_opened)
+      (one_room q (kept_of_pass 1 kept) offers.second.items (map (λ s. s.second) seats) second_opened)
+      (one_room q (kept_of_pass 2 kept) offers.third.items (map (λ s. s.third) seats) third_opened)
+      (one_room q (kept_of_pass 3 kept) offers.fourth.items (map (λ s. s.fourth) seats) fourth_opened)
       (refl, (refl, (refl, (refl, tt))))
 
   -- as many as the nodes
   pub all_count : length seats ≡ q.nodes
-  all_count = sym (length-map seats (λ s. s.first)) ∙ as_many q (kept_in 0 kept) offers.first.items (map (λ s. s.first) seats) first_opened
+  all_count = sym (length-map seats (λ s. s.first)) ∙ as_many q (kept_of_pass 0 kept) offers.first.items (map (λ s. s.first) seats) first_opened
 
   pub some_of_all : AreQuorums q → 0 < length seats
   some_of_all sizes =
       subst (λ (n : ℕ). 0 < n) (length-map seats (λ s. s.first))
-      (some_seat q (kept_in 0 kept) offers.first.items (map (λ s. s.first) seats) first_opened sizes)
+      (some_seat q (kept_of_pass 0 kept) offers.first.items (map (λ s. s.first) seats) first_opened sizes)
 
 -- with the number of the function
 module _ {H : Type 0} {h : naming.Ghosts H} where
@@ -72,10 +72,10 @@ module _ {H : Type 0} {h : naming.Ghosts H} where
       → length kept ≡ q.nodes → IsOpenFunction q kept f offers nodes
   open_function_is number q kept f offers parts here seats nodes ep are is en one settled size =
       record {
-        constants = numbered_room _ q (kept_of kept (room_at f Constants)) (kept_in 0 parts) (offers_of (rows_of offers.constants.items) f) here.first.items (λ s. s.first) nodes seats (ap (λ ps. kept_in 0 ps) ep ∙ kept_first kept f) are.constants en one is.first;
-        expressions = numbered_room _ q (kept_of kept (room_at f Expressions)) (kept_in 1 parts) (offers_of (rows_of offers.expressions.items) f) here.second.items (λ s. s.second) nodes seats (ap (λ ps. kept_in 1 ps) ep ∙ kept_second kept f) are.expressions en one is.second;
-        allocation = numbered_room _ q (kept_of kept (room_at f Allocation)) (kept_in 2 parts) (offers_of (rows_of offers.allocation.items) f) here.third.items (λ s. s.third) nodes seats (ap (λ ps. kept_in 2 ps) ep ∙ kept_third kept f) are.allocation en one is.third;
-        order = numbered_room _ q (kept_of kept (room_at f Order)) (kept_in 3 parts) (offers_of (rows_of offers.order.items) f) here.fourth.items (λ s. s.fourth) nodes seats (ap (λ ps. kept_in 3 ps) ep ∙ kept_fourth kept f) are.order en one is.fourth;
+        constants = numbered_room _ q (kept_of kept (room_at f Constants)) (kept_of_pass 0 parts) (offers_of (rows_of offers.constants.items) f) here.first.items (λ s. s.first) nodes seats (ap (λ ps. kept_of_pass 0 ps) ep ∙ kept_first kept f) are.constants en one is.first;
+        expressions = numbered_room _ q (kept_of kept (room_at f Expressions)) (kept_of_pass 1 parts) (offers_of (rows_of offers.expressions.items) f) here.second.items (λ s. s.second) nodes seats (ap (λ ps. kept_of_pass 1 ps) ep ∙ kept_second kept f) are.expressions en one is.second;
+        allocation = numbered_room _ q (kept_of kept (room_at f Allocation)) (kept_of_pass 2 parts) (offers_of (rows_of offers.allocation.items) f) here.third.items (λ s. s.third) nodes seats (ap (λ ps. kept_of_pass 2 ps) ep ∙ kept_third kept f) are.allocation en one is.third;
+        order = numbered_room _ q (kept_of kept (room_at f Order)) (kept_of_pass 3 parts) (offers_of (rows_of offers.order.items) f) here.fourth.items (λ s. s.fourth) nodes seats (ap (λ ps. kept_of_pass 3 ps) ep ∙ kept_fourth kept f) are.order en one is.fourth;
         count = sym (length-map nodes (λ n. n.seat)) ∙ (ap length en ∙ (all_count number q parts here seats is ∙ sym size));
         settled = settled;
       }

@@ -9,7 +9,7 @@ use Rattle.rooms.specs.Opened.{AreOffersOf}
 use Rattle.rooms.specs.declared.error.RoomError.{RoomError}
 use Rattle.rooms.specs.declared.error.RoomError.TheVariants as error
 use Rattle.farm_nodes_turn_passes.specs.FunctionOffers.{FunctionOffers}
-use Rattle.farm_nodes_turn_passes.specs.Opened.{kept_in}
+use Rattle.farm_nodes_turn_passes.specs.Opened.{kept_of_pass}
 use Rattle.farm_nodes_turn_passes.specs.Opened as by_pass
 use Rattle.farm_nodes_turn_passes.specs.declared.which.Which.{Which}
 use Rattle.farm_nodes_turn_passes.specs.declared.which.Which.TheVariants.{Constants, Expressions, Allocation, Order}
@@ -19,7 +19,7 @@ use Rattle.farm_nodes_open_numbers.specs.declared.fault.RoomFault.{RoomFault}
 use Rattle.farm_nodes_open_numbers.specs.declared.fault.RoomFault.TheVariants.{CellRefused, NoMemory, Spent, Unsettled}
 use Rattle.farm_nodes_open_numbers.proofs.Left.{who_offered}
 use Rattle.farm_nodes_open_numbers.proofs.OneRoom.{map-map}
-use Rattle.farm_nodes_open_rooms.specs.Function.{room_fault, IsTold}
+use Rattle.farm_nodes_open_rooms.specs.Function.{room_fault, IsRoomFault}
 
 of_function : (f : ℕ) (pass : Which) (room : ℕ) → room ≡ room_at f pass → function_of room ≡ f
 of_function f Constants room is = omega (arith, is)
@@ -68,7 +68,7 @@ module _ (q : Sizes) (nodes : List (Vec KeptPart)) (f : ℕ) where
   all_settled a b c d Order = d
 
   -- the room of a pass is told
-  told : (pass : Which) (room : ℕ) (fault : RoomFault) → AreSettledBefore q nodes f room → room ≡ room_at f pass → (fault ≡ Unsettled → ¬ IsSettledIn q nodes (room_at f pass)) → (fault ≡ CellRefused → IsOfferedIn nodes (room_at f pass)) → IsTold q nodes f room fault
+  told : (pass : Which) (room : ℕ) (fault : RoomFault) → AreSettledBefore q nodes f room → room ≡ room_at f pass → (fault ≡ Unsettled → ¬ IsSettledIn q nodes (room_at f pass)) → (fault ≡ CellRefused → IsOfferedIn nodes (room_at f pass)) → IsRoomFault q nodes f room fault
   told pass room fault before is unsettled refused = record {
     of_function = of_function f pass room is;
     before = before;
@@ -77,44 +77,44 @@ module _ (q : Sizes) (nodes : List (Vec KeptPart)) (f : ℕ) where
   }
 
   module _ (room : ℕ) (fault : RoomFault) where
-    pub told_first : room ≡ room_at f Constants → (fault ≡ Unsettled → ¬ IsSettledIn q nodes (room_at f Constants)) → (fault ≡ CellRefused → IsOfferedIn nodes (room_at f Constants)) → IsTold q nodes f room fault
+    pub told_first : room ≡ room_at f Constants → (fault ≡ Unsettled → ¬ IsSettledIn q nodes (room_at f Constants)) → (fault ≡ CellRefused → IsOfferedIn nodes (room_at f Constants)) → IsRoomFault q nodes f room fault
     told_first is = told Constants room fault (none_before q nodes f room is) is
 
-    pub told_second : IsSettledIn q nodes (room_at f Constants) → room ≡ room_at f Expressions → (fault ≡ Unsettled → ¬ IsSettledIn q nodes (room_at f Expressions)) → (fault ≡ CellRefused → IsOfferedIn nodes (room_at f Expressions)) → IsTold q nodes f room fault
+    pub told_second : IsSettledIn q nodes (room_at f Constants) → room ≡ room_at f Expressions → (fault ≡ Unsettled → ¬ IsSettledIn q nodes (room_at f Expressions)) → (fault ≡ CellRefused → IsOfferedIn nodes (room_at f Expressions)) → IsRoomFault q nodes f room fault
     told_second a is = told Expressions room fault (one_before q nodes f room a is) is
 
-    pub told_third : IsSettledIn q nodes (room_at f Constants) → IsSettledIn q nodes (room_at f Expressions) → room ≡ room_at f Allocation → (fault ≡ Unsettled → ¬ IsSettledIn q nodes (room_at f Allocation)) → (fault ≡ CellRefused → IsOfferedIn nodes (room_at f Allocation)) → IsTold q nodes f room fault
+    pub told_third : IsSettledIn q nodes (room_at f Constants) → IsSettledIn q nodes (room_at f Expressions) → room ≡ room_at f Allocation → (fault ≡ Unsettled → ¬ IsSettledIn q nodes (room_at f Allocation)) → (fault ≡ CellRefused → IsOfferedIn nodes (room_at f Allocation)) → IsRoomFault q nodes f room fault
     told_third a b is = told Allocation room fault (two_before q nodes f room a b is) is
 
-    pub told_fourth : IsSettledIn q nodes (room_at f Constants) → IsSettledIn q nodes (room_at f Expressions) → IsSettledIn q nodes (room_at f Allocation) → room ≡ room_at f Order → (fault ≡ Unsettled → ¬ IsSettledIn q nodes (room_at f Order)) → (fault ≡ CellRefused → IsOfferedIn nodes (room_at f Order)) → IsTold q nodes f room fault
+    pub told_fourth : IsSettledIn q nodes (room_at f Constants) → IsSettledIn q nodes (room_at f Expressions) → IsSettledIn q nodes (room_at f Allocation) → room ≡ room_at f Order → (fault ≡ Unsettled → ¬ IsSettledIn q nodes (room_at f Order)) → (fault ≡ CellRefused → IsOfferedIn nodes (room_at f Order)) → IsRoomFault q nodes f room fault
     told_fourth a b c is = told Order room fault (three_before q nodes f room a b c is) is
 
     -- or there is no memory or no number for them, before a room is told
-    pub told_none : room ≡ 4 * f → (fault ≡ NoMemory) ⊎ (fault ≡ Spent) → IsTold q nodes f room fault
+    pub told_none : room ≡ 4 * f → (fault ≡ NoMemory) ⊎ (fault ≡ Spent) → IsRoomFault q nodes f room fault
     told_none is none = told_first (omega (arith, is)) (λ e. absurd (not_unsettled fault none e)) (λ e. absurd (not_refused fault none e))
 
 -- ---- of the passes by number
 
 -- what was kept in the room of a pass
 module _ (nodes : List (Vec KeptPart)) (f : ℕ) where
-  pub kept_first : kept_in 0 (parts_of nodes f) ≡ kept_of nodes (room_at f Constants)
+  pub kept_first : kept_of_pass 0 (parts_of nodes f) ≡ kept_of nodes (room_at f Constants)
   kept_first =
       let same : 4 * f ≡ room_at f Constants = omega arith in
       map-map (λ (parts : List KeptPart). nodes_of parts 0) (λ (node : Vec KeptPart). four_kept node.items f) nodes ∙ ap (λ (m : ℕ). kept_of nodes m) same
 
-  pub kept_second : kept_in 1 (parts_of nodes f) ≡ kept_of nodes (room_at f Expressions)
+  pub kept_second : kept_of_pass 1 (parts_of nodes f) ≡ kept_of nodes (room_at f Expressions)
   kept_second = map-map (λ (parts : List KeptPart). nodes_of parts 1) (λ (node : Vec KeptPart). four_kept node.items f) nodes
 
-  pub kept_third : kept_in 2 (parts_of nodes f) ≡ kept_of nodes (room_at f Allocation)
+  pub kept_third : kept_of_pass 2 (parts_of nodes f) ≡ kept_of nodes (room_at f Allocation)
   kept_third = map-map (λ (parts : List KeptPart). nodes_of parts 2) (λ (node : Vec KeptPart). four_kept node.items f) nodes
 
-  pub kept_fourth : kept_in 3 (parts_of nodes f) ≡ kept_of nodes (room_at f Order)
+  pub kept_fourth : kept_of_pass 3 (parts_of nodes f) ≡ kept_of nodes (room_at f Order)
   kept_fourth = map-map (λ (parts : List KeptPart). nodes_of parts 3) (λ (node : Vec KeptPart). four_kept node.items f) nodes
 
-  settled_in : (q : Sizes) (p : ℕ) (room : ℕ) → kept_in p (parts_of nodes f) ≡ kept_of nodes room → by_pass.IsSettledIn q (parts_of nodes f) p → IsSettledIn q nodes room
+  settled_in : (q : Sizes) (p : ℕ) (room : ℕ) → kept_of_pass p (parts_of nodes f) ≡ kept_of nodes room → by_pass.IsSettledIn q (parts_of nodes f) p → IsSettledIn q nodes room
   settled_in q p room e s = subst (λ (k : List KeptPart). Settled q (nodes_of k)) e s
 
-  settled_back : (q : Sizes) (p : ℕ) (room : ℕ) → kept_in p (parts_of nodes f) ≡ kept_of nodes room → IsSettledIn q nodes room → by_pass.IsSettledIn q (parts_of nodes f) p
+  settled_back : (q : Sizes) (p : ℕ) (room : ℕ) → kept_of_pass p (parts_of nodes f) ≡ kept_of nodes room → IsSettledIn q nodes room → by_pass.IsSettledIn q (parts_of nodes f) p
   settled_back q p room e s = subst (λ (k : List KeptPart). Settled q (nodes_of k)) (sym e) s
 
   pub settled_all : (q : Sizes) → by_pass.AreSettled q (parts_of nodes f) → AreSettled q nodes f
@@ -135,7 +135,7 @@ module _ (nodes : List (Vec KeptPart)) (f : ℕ) where
     refused_is error.Unsettled e = absurd (cc)
     refused_is error.CellRefused e = refl
 
-    pub told_pass : (pass : ℕ) → by_pass.IsUnopened q (parts_of nodes f) here pass why → room + 1 ≡ 4 * f + pass → IsTold q nodes f room fault
+    pub told_pass : (pass : ℕ) → by_pass.IsUnopened q (parts_of nodes f) here pass why → room + 1 ≡ 4 * f + pass → IsRoomFault q nodes f room fault
     told_pass zero is at = absurd (let some : 0 < 0 = is.some in omega arith)
     told_pass (suc zero) is at =
         told_first q nodes f room fault (omega (arith, at))

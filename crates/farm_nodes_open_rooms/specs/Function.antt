@@ -40,7 +40,7 @@ pub record IsOpenFunction {H : Type 0} {h : naming.Ghosts H} (q : Sizes) (kept :
 
 -- The room is one of the function's, and what was kept of those in front of it is settled. Of this one it is not, where it is said so;
 -- and where a cell refused, somebody has offered there.
-pub record IsTold (q : Sizes) (nodes : List (Vec KeptPart)) (function room : ℕ) (fault : RoomFault) : Type 0 where
+pub record IsRoomFault (q : Sizes) (nodes : List (Vec KeptPart)) (function room : ℕ) (fault : RoomFault) : Type 0 where
   pub of_function : function_of room ≡ function
   pub before : AreSettledBefore q nodes function room
   pub unsettled : fault ≡ Unsettled → ¬ IsSettledIn q nodes room

@@ -3,7 +3,7 @@ ghost use Rattle.farm_nodes_turn_passes.specs.declared.which.Which.TheVariants a
 ghost use Rattle.farm_nodes_open_lists.specs.Rows.{rows_of};
 ghost use Rattle.farm_nodes_open_numbers.specs.declared.fault.RoomFault.TheVariants as fault;
 ghost use Rattle.farm_nodes_open_rooms.specs.Opened.{AreOfferedFor};
-ghost use Rattle.farm_nodes_open_rooms.specs.Function.{room_fault, AreHere, AreTaken, IsOpenFunction, IsTold};
+ghost use Rattle.farm_nodes_open_rooms.specs.Function.{room_fault, AreHere, AreTaken, IsOpenFunction, IsRoomFault};
 
 use farm_nodes_open_lists::take_each;
 use farm_nodes_open_numbers::{RoomFault, Unopened, numbered, parts_of};
@@ -45,7 +45,7 @@ pub(crate) fn open_function<H: Naming>(
     requires offers4 { AreOfferedFor kept.now which.Order function (rows_of offers.old.order.items) }
     ensures opened { IfOk result (λ nodes. IsOpenFunction quorums kept.now function offers.old nodes.items) }
     ensures others { OnOk result (AreTaken function offers.old offers.new) }
-    ensures told { IfErr result (λ e. IsTold quorums kept.now function e.room e.fault) }
+    ensures told { IfErr result (λ e. IsRoomFault quorums kept.now function e.room e.fault) }
 {
     let _nodes = quorums.nodes();
     let parts = match parts_of(alloc, kept, function) {

@@ -39,7 +39,7 @@ module _ {P O H : Type 0} {h : naming.Ghosts H} where
   pub record KeepsItsOwn (node now : FarmNode P O H h) : Type 0 where
     pub program : now.program ≡ node.program
     pub oracles : now.oracles ≡ node.oracles
-    pub words : now.words ≡ node.words
+    pub draws : now.draws ≡ node.draws
 
 module _ {P O H : Type 0} {h : naming.Ghosts H} (disk : disks.Ghosts P) (pair : pairs.Ghosts P) where
   -- both disks are honest, and show what a crash now may leave of those that the node is on

@@ -45,7 +45,7 @@ pub fn restart<P: Pair, O, H: Naming>(
         mut seats,
         program,
         oracles,
-        words,
+        draws,
         halted,
     } = node;
     let (room, pending) = unfinished(halted);
@@ -59,7 +59,7 @@ pub fn restart<P: Pair, O, H: Naming>(
                 seats,
                 program,
                 oracles,
-                words,
+                draws,
                 halted: None,
             };
             Ok((back, log.into_disk()))
@@ -75,7 +75,7 @@ pub fn restart<P: Pair, O, H: Naming>(
                 seats,
                 program,
                 oracles,
-                words,
+                draws,
                 halted: Some(Halted { room, halt }),
             };
             Err((refused, pair, fault))

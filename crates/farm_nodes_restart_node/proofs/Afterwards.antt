@@ -6,7 +6,7 @@ use Rattle.std.proofs.lemmas.List.{length-map, length-set}
 use Rattle.std.proofs.lemmas.Option.{slice_get_within}
 use Rattle.paxos_core_world.specs.KeptPart.{KeptPart}
 use Rattle.acceptor_log_form.specs.declared.record.Record.{Record}
-use Rattle.acceptor_log_form.specs.Leaves.{kept_by, kept_in}
+use Rattle.acceptor_log_form.specs.Leaves.{kept_by_record, kept_in}
 use Rattle.rooms_seat_state.specs.SeatState.{SeatState}
 use Rattle.farm_nodes_turn_step.specs.declared.stop.Pending.{Pending}
 use Rattle.farm_nodes_turn_step.specs.Noted.{pending_of}
@@ -111,7 +111,7 @@ module _ {X1 X2 X3 X4 : Type 0} (IsText1 : List ℕ → X1 → Type 0) (IsText2 
         let after : took.after ≡ s = is_after (function_of m) s (ap function_of same) at in
         ap (λ (l : List Record). kept_in l m) ends.2
         ∙ (kept_own front ends.0 m (own.0 ∙ sym same)
-        ∙ (ap (λ (k : KeptPart). kept_by k ends.0) (ap (λ (j : ℕ). kept_in front j) same ∙ leave.rooms room took.before took.there)
+        ∙ (ap (λ (k : KeptPart). kept_by_record k ends.0) (ap (λ (j : ℕ). kept_in front j) same ∙ leave.rooms room took.before took.there)
         ∙ (own.1
         ∙ (ap (λ (t : Four X1 X2 X3 X4). (words_of t (pass_of room)).node.kept) after
         ∙ ap (λ (j : ℕ). (words_of s (pass_of j)).node.kept) (sym same)))))

@@ -10,7 +10,7 @@ use Rattle.acceptor_log_form.specs.declared.errors.LogError.TheVariants.{BadReco
 use Rattle.acceptor_log_form.specs.declared.record.Record.{Record}
 use Rattle.acceptor_log_form.specs.declared.record.Record.TheVariants.{Offered}
 use Rattle.acceptor_log_form.specs.Text.{room_of}
-use Rattle.acceptor_log_form.specs.Leaves.{kept_by, kept_in, left_from}
+use Rattle.acceptor_log_form.specs.Leaves.{kept_by_record, kept_in, left_from}
 use Rattle.acceptor_log_form.specs.Order.{AreInOrder, MayFollow}
 use Rattle.farm_nodes_restart_seat.specs.SeatValue.{SeatValue}
 use Rattle.farm_nodes_turn_step.specs.declared.stop.Pending.{Pending}
@@ -34,10 +34,10 @@ use Rattle.farm_nodes_restart_records.proofs.Rooms.{function_at, pass_at_room, r
 
 -- ---- rooms of no record
 
-untouched : (k : KeptPart) (rs : List Record) (m : ℕ) → ((i : ℕ) (r : Record) → slice_get rs i ≡ Some r → room_of r ≢ m) → left_from kept_by k rs m ≡ k
+untouched : (k : KeptPart) (rs : List Record) (m : ℕ) → ((i : ℕ) (r : Record) → slice_get rs i ≡ Some r → room_of r ≢ m) → left_from kept_by_record k rs m ≡ k
 untouched k [] m others = refl
 untouched k (r ∷ rs) m others =
-    ap (λ (t : Bool). left_from kept_by (cond t (kept_by k r) k) rs m) (ne_eqb (room_of r) m (others zero r refl))
+    ap (λ (t : Bool). left_from kept_by_record (cond t (kept_by_record k r) k) rs m) (ne_eqb (room_of r) m (others zero r refl))
     ∙ untouched k rs m (λ i q at. others (suc i) q at)
 
 pub nothing_above : (n i rooms : ℕ) (rs : List Record) (m : ℕ) → AreInOrder n i rooms rs → rooms ≤ m → kept_in rs m ≡ nothing_kept

@@ -4,7 +4,7 @@ use Rattle.paxos_core_node_steps.specs.declared.step.Step.{Step}
 use Rattle.paxos_core_node_steps.specs.declared.step.Step.TheVariants as step
 use Rattle.acceptor_log_form.specs.declared.record.Record.{Record}
 use Rattle.acceptor_log_form.specs.Text.{room_of}
-use Rattle.acceptor_log_form.specs.Leaves.{kept_by}
+use Rattle.acceptor_log_form.specs.Leaves.{kept_by_record}
 use Rattle.rooms_seat_state.specs.declared.act.Act.{Act as Asked}
 use Rattle.rooms_seat_state.specs.SeatState.{SeatState}
 use Rattle.rooms_seat_state.specs.Would.{would, Acted}
@@ -24,7 +24,7 @@ use Rattle.farm_nodes_restart_seat.specs.Taken.{HasForgotten, Took}
 
 -- the record is of the room, and leaves of it what the seat then keeps
 abbrev pub IsRecordOf : ℕ → SeatState → SeatState → Record → Type 0
-IsRecordOf room s t last = (room_of last ≡ room) × (kept_by s.node.kept last ≡ t.node.kept)
+IsRecordOf room s t last = (room_of last ≡ room) × (kept_by_record s.node.kept last ≡ t.node.kept)
 
 step_record : (room : ℕ) (s t : SeatState) (a : Asked) (o : Option Step) (last : Record) → o ≡ would s a → Acted a s t → records_of room o ≡ last ∷ [] → IsRecordOf room s t last
 step_record room s t a None last is acted e = absurd (cc)
@@ -44,7 +44,7 @@ forgotten_kept old new forgot = ap (λ (s : SeatState). s.node.kept) forgot.word
 
 -- ---- the text of its offer
 
-offered_by : (o : Option Step) (k : KeptPart) → (core.kept_by o k).offered ≡ k.offered
+offered_by : (o : Option Step) (k : KeptPart) → (core.kept_by_step o k).offered ≡ k.offered
 offered_by None k = refl
 offered_by (Some (step.Start b)) k = refl
 offered_by (Some (step.Promise b)) k = refl

@@ -5,7 +5,7 @@ use Rattle.std.proofs.lemmas.List.Elements.{All-take}
 use Rattle.paxos_core_world.specs.KeptPart.{KeptPart}
 use Rattle.acceptor_log_form.specs.declared.record.Record.{Record}
 use Rattle.acceptor_log_form.specs.Text.{room_of}
-use Rattle.acceptor_log_form.specs.Leaves.{kept_by, kept_in}
+use Rattle.acceptor_log_form.specs.Leaves.{kept_by_record, kept_in}
 use Rattle.farm_nodes_turn_order.proofs.Records.{kept_own, kept_other}
 use Rattle.farm_nodes_sweep_records.specs.Pending.{NoneOf, AreApart, LeftWith}
 use Rattle.farm_nodes_sweep_records.proofs.Taking.{kept_behind}
@@ -14,7 +14,7 @@ use Rattle.farm_nodes_sweep_records.proofs.Taking.{kept_behind}
 behind_other : (rs ps : List Record) (r : Record) (m : ℕ) (kept : KeptPart) → room_of r ≢ m → LeftWith (rs ++ r ∷ []) ps m kept → LeftWith rs (r ∷ ps) m kept
 behind_other rs ps r m kept other (inl is) = inl (is ∙ kept_other rs r m other)
 behind_other rs ps r m kept other (inr one) =
-    inr (one.0, r ∷ one.1, one.2, one.3, ap (λ (l : List Record). r ∷ l) one.4, one.5 ∙ ap (λ (k : KeptPart). kept_by k one.0) (kept_other rs r m other))
+    inr (one.0, r ∷ one.1, one.2, one.3, ap (λ (l : List Record). r ∷ l) one.4, one.5 ∙ ap (λ (k : KeptPart). kept_by_record k one.0) (kept_other rs r m other))
 
 pub front-leaves : (rs pending : List Record) (k m : ℕ) → AreApart pending → LeftWith rs pending m (kept_in (rs ++ take k pending) m)
 front-leaves rs pending zero m apart = inl (ap (λ (l : List Record). kept_in l m) (append-nil rs))

@@ -4,8 +4,8 @@ use Rattle.std.specs.Prelude.{◌≡◌, ◌≢◌, ◌⊎◌, ℕ, ◌<◌, ◌
 use Rattle.paxos_core_world.specs.KeptPart.{KeptPart}
 use Rattle.acceptor_log_form.specs.declared.record.Record.{Record}
 use Rattle.acceptor_log_form.specs.Text.{room_of}
-use Rattle.acceptor_log_form.specs.Leaves.{kept_by, kept_in, proposed_by, proposed_in}
-use Rattle.acceptor_log_form.specs.Order.{AreInOrder, GoesOn}
+use Rattle.acceptor_log_form.specs.Leaves.{kept_by_record, kept_in, proposed_by, proposed_in}
+use Rattle.acceptor_log_form.specs.Order.{AreInOrder, MayFollow}
 use Rattle.rooms_seat.specs.SeatState.{SeatState}
 use Rattle.farm_nodes_turn_order.specs.Ordered.{IsUnproposed}
 
@@ -33,7 +33,7 @@ pub record MayPut (seats : Seats) (n i rooms : ℕ) (r : Record) : Type 0 where
   pub seat : SeatState
   pub there : seats (room_of r) ≡ Some seat
   pub low : room_of r < rooms
-  pub goes : (last : ℕ) → IsUnproposed last seat → GoesOn n i seat.node.kept last r
+  pub goes : (last : ℕ) → IsUnproposed last seat → MayFollow n i seat.node.kept last r
 
 -- What is pending: the records stand for what the seats keep, those that are pending are in order behind them, each is of a step that
 -- its seat may take next, and no two are of one room.
@@ -50,11 +50,11 @@ pub record TakesStep (before after : Seats) (r : Record) : Type 0 where
   pub at : before (room_of r) ≡ Some was
   pub now : SeatState
   pub is : after (room_of r) ≡ Some now
-  pub step : kept_by was.node.kept r ≡ now.node.kept
+  pub step : kept_by_record was.node.kept r ≡ now.node.kept
   pub leaves : (last : ℕ) → IsUnproposed last was → last ≤ was.node.kept.started → IsUnproposed (proposed_by last r) now
 
 -- what a front of them leaves of a room is what was there, or that with the one record of the room
 abbrev pub LeftWith : List Record → List Record → ℕ → KeptPart → Type 0
 LeftWith rs pending m kept =
     (kept ≡ kept_in rs m)
-    ⊎ ((r : Record) × (a : List Record) × (b : List Record) × (room_of r ≡ m) × (pending ≡ a ++ r ∷ b) × (kept ≡ kept_by (kept_in rs m) r))
+    ⊎ ((r : Record) × (a : List Record) × (b : List Record) × (room_of r ≡ m) × (pending ≡ a ++ r ∷ b) × (kept ≡ kept_by_record (kept_in rs m) r))

@@ -36,7 +36,7 @@ pub fn play_in<D: Disk, O: Oracles, H: Naming>(
     room: u16,
     function: &Function,
     oracles: &mut O,
-    words: &mut Pcg32,
+    draws: &mut Pcg32,
 ) -> Result<Progress, Halt>
     requires { IsSound D.is_honest D.seen D.may_leave log.old }
     ensures served { IsServed D.is_honest D.seen D.may_leave D.faults log.old log.new }
@@ -49,7 +49,7 @@ pub fn play_in<D: Disk, O: Oracles, H: Naming>(
     // An offer of the first pass goes on from the function, one of another from the output learned in the pass before.
     ensures made { IsMadeIn function.now pass (four_of seats.old) (four_of seats.new) }
 
-    ensures after { OnOk result (StandsAfter pass (pcg32 words.old).0 (four_of seats.old) (four_of seats.new)) }
+    ensures after { OnOk result (StandsAfter pass (pcg32 draws.old).0 (four_of seats.old) (four_of seats.new)) }
 
     // Where it halts it had not done what is pending.
     ensures left { IfErr result (λ halt. HasPending seats.new room pass halt.pending) }
@@ -66,7 +66,7 @@ pub fn play_in<D: Disk, O: Oracles, H: Naming>(
             room,
             function,
             &mut ConstantsOf(oracles),
-            words,
+            draws,
         ),
         Which::Expressions => play_behind(
             alloc,
@@ -75,7 +75,7 @@ pub fn play_in<D: Disk, O: Oracles, H: Naming>(
             &mut seats.seat.second,
             room,
             &mut ExpressionsOf(oracles),
-            words,
+            draws,
         ),
         Which::Allocation => play_behind(
             alloc,
@@ -84,7 +84,7 @@ pub fn play_in<D: Disk, O: Oracles, H: Naming>(
             &mut seats.seat.third,
             room,
             &mut AllocationOf(oracles),
-            words,
+            draws,
         ),
         Which::Order => play_behind(
             alloc,
@@ -93,7 +93,7 @@ pub fn play_in<D: Disk, O: Oracles, H: Naming>(
             &mut seats.seat.fourth,
             room,
             &mut OrderOf(oracles),
-            words,
+            draws,
         ),
     }
 }
@@ -106,7 +106,7 @@ fn play_first<D: Disk, P: Pass, O: Oracle<P = P>>(
     room: u16,
     function: &<P::In as Language>::Fun,
     oracle: &mut O,
-    words: &mut Pcg32,
+    draws: &mut Pcg32,
 ) -> Result<Progress, Halt>
     requires { IsSound D.is_honest D.seen D.may_leave log.old }
     ensures served { IsServed D.is_honest D.seen D.may_leave D.faults log.old log.new }
@@ -117,13 +117,13 @@ fn play_first<D: Disk, P: Pass, O: Oracle<P = P>>(
     ensures quiet { OnOk result ((j : ℕ) → j < seat.new.words.node.quorums.nodes
         → IsQuiet j seat.new.words) }
     ensures proposed { OnOk result (would seat.new.words asked.Propose ≡ None) }
-    ensures led { OnOk result (LeadsByLot (pcg32 words.old).0 seat.old.words seat.new.words) }
+    ensures led { OnOk result (LeadsByLot (pcg32 draws.old).0 seat.old.words seat.new.words) }
     ensures left { IfErr result (HaltsBefore P.In.Language P.Out.Language P.Pass room seat.new) }
     ensures journal { LogsTurn D.Disk P.In.Language P.Out.Language P.Pass
         log.old log.new room seat.old seat.new result }
     ensures cause { MayHaltFor D.Disk (P.too_large function.now) log.old log.new room seat.new.words result }
 {
-    play(alloc, log, seat, room, Some(function), oracle, words)
+    play(alloc, log, seat, room, Some(function), oracle, draws)
 }
 
 /// One turn in the room of a pass whose input is learned in the room before.
@@ -134,7 +134,7 @@ fn play_behind<D: Disk, B: Pass, P: Pass<In = B::Out>, O: Oracle<P = P>>(
     seat: &mut Seat<P>,
     room: u16,
     oracle: &mut O,
-    words: &mut Pcg32,
+    draws: &mut Pcg32,
 ) -> Result<Progress, Halt>
     requires { IsSound D.is_honest D.seen D.may_leave log.old }
     ensures served { IsServed D.is_honest D.seen D.may_leave D.faults log.old log.new }
@@ -145,7 +145,7 @@ fn play_behind<D: Disk, B: Pass, P: Pass<In = B::Out>, O: Oracle<P = P>>(
     ensures quiet { OnOk result ((j : ℕ) → j < seat.new.words.node.quorums.nodes
         → IsQuiet j seat.new.words) }
     ensures proposed { OnOk result (would seat.new.words asked.Propose ≡ None) }
-    ensures led { OnOk result (LeadsByLot (pcg32 words.old).0 seat.old.words seat.new.words) }
+    ensures led { OnOk result (LeadsByLot (pcg32 draws.old).0 seat.old.words seat.new.words) }
     ensures left { IfErr result (HaltsBefore B.Out.Language P.Out.Language P.Pass room seat.new) }
     ensures journal { LogsTurn D.Disk B.Out.Language P.Out.Language P.Pass
         log.old log.new room seat.old seat.new result }
@@ -153,5 +153,5 @@ fn play_behind<D: Disk, B: Pass, P: Pass<In = B::Out>, O: Oracle<P = P>>(
         log.old log.new room seat.new.words result }
 {
     let input = learned_output(before);
-    play(alloc, log, seat, room, input, oracle, words)
+    play(alloc, log, seat, room, input, oracle, draws)
 }

@@ -19,7 +19,7 @@ pub struct FarmNode<D, O, H: Naming> {
     /// The program with which the first pass begins, shared by the nodes of a farm.
     pub program: Arc<Program<Function>>,
     pub oracles: O,
-    pub words: Pcg32,
+    pub draws: Pcg32,
     /// What stopped it, if it is stopped.
     pub halted: Option<Halted>,
     pub ghost covers: { length seats.items ≡ length (arc_value program).functions },

@@ -45,7 +45,7 @@ impl<D: Disk, O: Oracles, H: Naming> FarmNode<D, O, H> {
             room,
             function_in(&self.program.functions, room),
             &mut self.oracles,
-            &mut self.words,
+            &mut self.draws,
         ) {
             Ok(progress) => Turn::of(progress),
             Err(halt) => {

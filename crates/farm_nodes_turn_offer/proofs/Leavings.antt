@@ -6,8 +6,8 @@ use Rattle.acceptor_log_form.specs.declared.errors.LogError.TheVariants as log
 use Rattle.acceptor_log_form.specs.declared.record.Record.{Record}
 use Rattle.acceptor_log_form.specs.declared.record.Record.TheVariants.{Offered}
 use Rattle.acceptor_log_form.specs.Text.{room_of}
-use Rattle.acceptor_log_form.specs.Leaves.{kept_by, proposed_by}
-use Rattle.acceptor_log_form.specs.Order.{GoesOn}
+use Rattle.acceptor_log_form.specs.Leaves.{kept_by_record, proposed_by}
+use Rattle.acceptor_log_form.specs.Order.{MayFollow}
 use Rattle.acceptor_log.specs.declared.log.Log.{Log}
 use Rattle.acceptor_log.specs.Acknowledged.{acknowledged, IsReady}
 use Rattle.farm_nodes_turn_step.specs.SeatState.{SeatState}
@@ -25,15 +25,15 @@ use Rattle.farm_nodes_turn_offer.specs.Told.{offer_by, offer_in, IsOwnText, Tell
 use Rattle.farm_nodes_turn_offer.specs.Offered.{PutsOffer}
 
 -- what a node's offer leaves of the room is what its record leaves of it
-pub offer_kept : {T : Type 0} (room : ℕ) (text : List ℕ) (x : T) (r : Record) (s t : SeatValue T) → r ≡ Offered room text → PutsOffer x s t → kept_by s.words.node.kept r ≡ t.words.node.kept
+pub offer_kept : {T : Type 0} (room : ℕ) (text : List ℕ) (x : T) (r : Record) (s t : SeatValue T) → r ≡ Offered room text → PutsOffer x s t → kept_by_record s.words.node.kept r ≡ t.words.node.kept
 offer_kept room text x r s t is has =
-    ap (λ (q : Record). kept_by s.words.node.kept q) is ∙ sym (ap (λ (u : SeatState). u.node.kept) has.words)
+    ap (λ (q : Record). kept_by_record s.words.node.kept q) is ∙ sym (ap (λ (u : SeatState). u.node.kept) has.words)
 
 -- the offer's record goes on from what the node keeps, and it proposes as before
 pub offer_goes : {T : Type 0} (room : ℕ) (text : List ℕ) (r : Record) (s : SeatValue T) → r ≡ Offered room text → s.words.node.kept.offered ≡ false
-    → (last : ℕ) → GoesOn s.words.node.quorums.nodes s.words.node.me s.words.node.kept last r
+    → (last : ℕ) → MayFollow s.words.node.quorums.nodes s.words.node.me s.words.node.kept last r
 offer_goes room text r s is first last =
-    subst (λ (q : Record). GoesOn s.words.node.quorums.nodes s.words.node.me s.words.node.kept last q) (sym is) first
+    subst (λ (q : Record). MayFollow s.words.node.quorums.nodes s.words.node.me s.words.node.kept last q) (sym is) first
 
 pub offer_follows : {T : Type 0} (room : ℕ) (text : List ℕ) (x : T) (r : Record) (s t : SeatValue T) → r ≡ Offered room text → PutsOffer x s t → Follows room s.words t.words r
 offer_follows room text x r s t is has = record {

@@ -10,8 +10,8 @@ offer_by before (Offered room text) = Some text
 offer_by before _ = before
 
 -- the text of the offer in a room, if there is one
-abbrev pub offer_in : List Record → ℕ → Option (List ℕ)
-offer_in rs room = left_from offer_by None rs room
+abbrev pub last_offer_in : List Record → ℕ → Option (List ℕ)
+last_offer_in rs room = left_from offer_by None rs room
 
 -- there is one, and it is so
 abbrev pub IsToldAs : (List ℕ → Type 0) → Option (List ℕ) → Type 0

@@ -12,7 +12,7 @@ pub trait Oracles {
         &mut self,
         alloc: Global,
         input: &rtl_language::Function,
-        words: &mut Pcg32,
+        draws: &mut Pcg32,
     ) -> Result<Option<(rtl_language::Function, FactLists)>, NoMemory>;
 
     /// For the second pass, which computes an expression once.
@@ -20,7 +20,7 @@ pub trait Oracles {
         &mut self,
         alloc: Global,
         input: &rtl_language::Function,
-        words: &mut Pcg32,
+        draws: &mut Pcg32,
     ) -> Result<Option<(rtl_language::Function, EquationLists)>, NoMemory>;
 
     /// For the third pass, which gives pseudo-registers their registers and slots.
@@ -28,7 +28,7 @@ pub trait Oracles {
         &mut self,
         alloc: Global,
         input: &rtl_language::Function,
-        words: &mut Pcg32,
+        draws: &mut Pcg32,
     ) -> Result<Option<(ltl::Function, PlaceLists)>, NoMemory>;
 
     /// For the fourth pass, which lays the blocks out in an order.
@@ -36,7 +36,7 @@ pub trait Oracles {
         &mut self,
         alloc: Global,
         input: &ltl::Function,
-        words: &mut Pcg32,
+        draws: &mut Pcg32,
     ) -> Result<Option<(rooms_numbered::Function, Order)>, NoMemory>;
 }
 
@@ -51,9 +51,9 @@ impl<O: Oracles> Oracle for ConstantsOf<'_, O> {
         &mut self,
         alloc: Global,
         input: &rtl_language::Function,
-        words: &mut Pcg32,
+        draws: &mut Pcg32,
     ) -> Result<Option<(rtl_language::Function, FactLists)>, NoMemory> {
-        self.0.propose_constants(alloc, input, words)
+        self.0.propose_constants(alloc, input, draws)
     }
 }
 
@@ -68,9 +68,9 @@ impl<O: Oracles> Oracle for ExpressionsOf<'_, O> {
         &mut self,
         alloc: Global,
         input: &rtl_language::Function,
-        words: &mut Pcg32,
+        draws: &mut Pcg32,
     ) -> Result<Option<(rtl_language::Function, EquationLists)>, NoMemory> {
-        self.0.propose_expressions(alloc, input, words)
+        self.0.propose_expressions(alloc, input, draws)
     }
 }
 
@@ -85,9 +85,9 @@ impl<O: Oracles> Oracle for AllocationOf<'_, O> {
         &mut self,
         alloc: Global,
         input: &rtl_language::Function,
-        words: &mut Pcg32,
+        draws: &mut Pcg32,
     ) -> Result<Option<(ltl::Function, PlaceLists)>, NoMemory> {
-        self.0.propose_allocation(alloc, input, words)
+        self.0.propose_allocation(alloc, input, draws)
     }
 }
 
@@ -102,8 +102,8 @@ impl<O: Oracles> Oracle for OrderOf<'_, O> {
         &mut self,
         alloc: Global,
         input: &ltl::Function,
-        words: &mut Pcg32,
+        draws: &mut Pcg32,
     ) -> Result<Option<(rooms_numbered::Function, Order)>, NoMemory> {
-        self.0.propose_order(alloc, input, words)
+        self.0.propose_order(alloc, input, draws)
     }
 }

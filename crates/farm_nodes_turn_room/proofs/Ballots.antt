@@ -25,7 +25,7 @@ use Rattle.farm_nodes_turn_offer.proofs.Answering.{IsPast, left_quiet, quiet_lef
 abbrev told_proposal : Option (ℕ × ℕ) → Option Step
 told_proposal o = option_map (λ (p : ℕ × ℕ). step.Propose p.0 p.1) o
 
-proposal_keeps : (o : Option (ℕ × ℕ)) (k : KeptPart) → core.kept_by (told_proposal o) k ≡ k
+proposal_keeps : (o : Option (ℕ × ℕ)) (k : KeptPart) → core.kept_by_step (told_proposal o) k ≡ k
 proposal_keeps None k = refl
 proposal_keeps (Some p) k = refl
 
@@ -99,7 +99,7 @@ start_no_more s t acted none = no_more_if s t (next_start s.node) refl acted non
 same_start : (k l : KeptPart) → k ≡ l → k ≡ with_start k.started l
 same_start k l e = subst (λ (m : KeptPart). k ≡ with_start k.started m) e refl
 
-start_keeps : (o : Option ℕ) (k l : KeptPart) → l ≡ core.kept_by (told_start o) k → l ≡ with_start l.started k
+start_keeps : (o : Option ℕ) (k l : KeptPart) → l ≡ core.kept_by_step (told_start o) k → l ≡ with_start l.started k
 start_keeps None k l e = same_start l k e
 start_keeps (Some b) k l e = e ∙ ap (λ (c : ℕ). with_start c k) (sym (ap (λ (m : KeptPart). m.started) e))
 

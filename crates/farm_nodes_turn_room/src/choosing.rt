@@ -14,14 +14,14 @@ pub fn choose<P: Pass, O: Oracle<P = P>>(
     alloc: Global,
     oracle: &mut O,
     input: &<P::In as Language>::Fun,
-    words: &mut Pcg32,
+    draws: &mut Pcg32,
 ) -> Result<Offer<P>, Fault>
     ensures input { IfOk result (λ offer. offer.input ≡ input.now) }
 
     // No proposal halts a node: only wanting memory does, or an input without a baseline.
     ensures refused { IfErr result (IsChoiceFault (P.too_large input.now)) }
 {
-    match offers::choose::<P, AcceptedBaselines, O>(alloc, oracle, input, words) {
+    match offers::choose::<P, AcceptedBaselines, O>(alloc, oracle, input, draws) {
         Ok(made) => Ok(made.offer),
         Err(PassError::NoMemory) => Err(Fault::NoMemory),
         Err(PassError::TooManyRegisters) => Err(Fault::TooManyRegisters),

@@ -24,7 +24,7 @@ pub fn lead<D: Disk>(
     log: &mut Log<D>,
     seat: &mut WordSeat,
     room: u16,
-    words: &mut Pcg32,
+    draws: &mut Pcg32,
 ) -> Result<bool, Stop>
     requires { IsSound D.is_honest D.seen D.may_leave log.old }
     ensures served { IsServed D.is_honest D.seen D.may_leave D.faults log.old log.new }
@@ -34,10 +34,10 @@ pub fn lead<D: Disk>(
     // What stands after it: nothing is left to propose, what was quiet is quiet, and the node has started if it was to.
     ensures proposed { OnOk result (would seat.new asked.Propose ≡ None) }
     ensures quiet { (j : ℕ) → IsQuiet j seat.old → IsQuiet j seat.new }
-    ensures led { OnOk result (LeadsByLot (pcg32 words.old).0 seat.old seat.new) }
+    ensures led { OnOk result (LeadsByLot (pcg32 draws.old).0 seat.old seat.new) }
 
     // It starts no ballot without cause.
-    ensures started { StartsByLot (pcg32 words.old).0 seat.old seat.new }
+    ensures started { StartsByLot (pcg32 draws.old).0 seat.old seat.new }
 
     ensures acting { IfErr result (λ stop. IsActAmong seat.new.node.quorums.nodes stop.pending) }
     ensures journal { LogsActs D.Disk log.old log.new room seat.old seat.new result }
@@ -50,7 +50,7 @@ pub fn lead<D: Disk>(
     if !may_start(seat) {
         return Ok(proposed);
     }
-    if words.next_word() % 4 != 0 {
+    if draws.next_word() % 4 != 0 {
         return Ok(proposed);
     }
     match act(log, seat, room, Act::Start) {

@@ -20,13 +20,13 @@ pub fn offer_on<D: Disk, P: Pass, O: Oracle<P = P>>(
     room: u16,
     input: Option<&<P::In as Language>::Fun>,
     oracle: &mut O,
-    words: &mut Pcg32,
+    draws: &mut Pcg32,
 ) -> Result<bool, Halt>
     requires { IsSound D.is_honest D.seen D.may_leave log.old }
     ensures served { IsServed D.is_honest D.seen D.may_leave D.faults log.old log.new }
     ensures going { IfOk result (λ moved. log.new.going ≡ log.old.going) }
     ensures seat { HeldOffer seat.old seat.new }
-    ensures words { seat.old.words.node.kept.offered ≡ true → words.new ≡ words.old }
+    ensures words { seat.old.words.node.kept.offered ≡ true → draws.new ≡ draws.old }
 
     // The offer has the input, and it is made wherever there is one.
     ensures made { IsMadeOn (option_copied input.entry) seat.old seat.new }
@@ -46,7 +46,7 @@ pub fn offer_on<D: Disk, P: Pass, O: Oracle<P = P>>(
     let Some(input) = input else {
         return Ok(false);
     };
-    match choose(alloc, oracle, input, words) {
+    match choose(alloc, oracle, input, draws) {
         Ok(offer) => {
             offer.validated();
             make_offer(alloc, log, seat, room, offer)

@@ -29,7 +29,7 @@ pub fn play<D: Disk, P: Pass, O: Oracle<P = P>>(
     room: u16,
     input: Option<&<P::In as Language>::Fun>,
     oracle: &mut O,
-    words: &mut Pcg32,
+    draws: &mut Pcg32,
 ) -> Result<Progress, Halt>
     requires { IsSound D.is_honest D.seen D.may_leave log.old }
     ensures served { IsServed D.is_honest D.seen D.may_leave D.faults log.old log.new }
@@ -44,7 +44,7 @@ pub fn play<D: Disk, P: Pass, O: Oracle<P = P>>(
     ensures offered { OnOk result (IsSome input.entry → seat.new.words.node.kept.offered ≡ true) }
     ensures quiet { OnOk result ((j : ℕ) → j < seat.new.words.node.quorums.nodes → IsQuiet j seat.new.words) }
     ensures proposed { OnOk result (would seat.new.words asked.Propose ≡ None) }
-    ensures led { OnOk result (LeadsByLot (pcg32 words.old).0 seat.old.words seat.new.words) }
+    ensures led { OnOk result (LeadsByLot (pcg32 draws.old).0 seat.old.words seat.new.words) }
 
     // Where it halts it had not done what is pending: an act asked of a node of the room, or its offer.
     ensures left { IfErr result (HaltsBefore P.In.Language P.Out.Language P.Pass room seat.new) }
@@ -56,7 +56,7 @@ pub fn play<D: Disk, P: Pass, O: Oracle<P = P>>(
         log.old log.new room seat.new.words result }
 {
     let before = seat.learned();
-    let moved = match take_steps(alloc, log, seat, room, input, oracle, words) {
+    let moved = match take_steps(alloc, log, seat, room, input, oracle, draws) {
         Ok(moved) => moved,
         Err(halt) => return Err(halt),
     };
@@ -72,7 +72,7 @@ fn take_steps<D: Disk, P: Pass, O: Oracle<P = P>>(
     room: u16,
     input: Option<&<P::In as Language>::Fun>,
     oracle: &mut O,
-    words: &mut Pcg32,
+    draws: &mut Pcg32,
 ) -> Result<bool, Halt>
     requires { IsSound D.is_honest D.seen D.may_leave log.old }
     ensures served { IsServed D.is_honest D.seen D.may_leave D.faults log.old log.new }
@@ -82,18 +82,18 @@ fn take_steps<D: Disk, P: Pass, O: Oracle<P = P>>(
     ensures offered { OnOk result (IsSome input.entry → seat.new.words.node.kept.offered ≡ true) }
     ensures quiet { OnOk result ((j : ℕ) → j < seat.new.words.node.quorums.nodes → IsQuiet j seat.new.words) }
     ensures proposed { OnOk result (would seat.new.words asked.Propose ≡ None) }
-    ensures led { OnOk result (LeadsByLot (pcg32 words.old).0 seat.old.words seat.new.words) }
+    ensures led { OnOk result (LeadsByLot (pcg32 draws.old).0 seat.old.words seat.new.words) }
     ensures left { IfErr result (HaltsBefore P.In.Language P.Out.Language P.Pass room seat.new) }
     ensures journal { LogsSteps D.Disk P.In.Language P.Out.Language P.Pass
         log.old log.new room seat.old seat.new result }
     ensures cause { HaltsOver D.Disk P.too_large (option_copied input.entry)
         log.old log.new room seat.new.words result }
 {
-    let offered = match offer_on(alloc, log, seat, room, input, oracle, words) {
+    let offered = match offer_on(alloc, log, seat, room, input, oracle, draws) {
         Ok(offered) => offered,
         Err(halt) => return Err(halt),
     };
-    match take_part(log, &mut seat.words, room, words) {
+    match take_part(log, &mut seat.words, room, draws) {
         Ok(moved) => Ok(either(offered, moved)),
         Err(stop) => Err(Halt::stopped(stop)),
     }

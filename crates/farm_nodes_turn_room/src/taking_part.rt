@@ -20,7 +20,7 @@ pub fn take_part<D: Disk>(
     log: &mut Log<D>,
     seat: &mut WordSeat,
     room: u16,
-    words: &mut Pcg32,
+    draws: &mut Pcg32,
 ) -> Result<bool, Stop>
     requires { IsSound D.is_honest D.seen D.may_leave log.old }
     ensures served { IsServed D.is_honest D.seen D.may_leave D.faults log.old log.new }
@@ -30,7 +30,7 @@ pub fn take_part<D: Disk>(
     // Nothing is left to accept, to promise or to propose, and it has led if it was to.
     ensures quiet { OnOk result ((j : ℕ) → j < seat.new.node.quorums.nodes → IsQuiet j seat.new) }
     ensures proposed { OnOk result (would seat.new asked.Propose ≡ None) }
-    ensures led { OnOk result (LeadsByLot (pcg32 words.old).0 seat.old seat.new) }
+    ensures led { OnOk result (LeadsByLot (pcg32 draws.old).0 seat.old seat.new) }
 
     ensures acting { IfErr result (λ stop. IsActAmong seat.new.node.quorums.nodes stop.pending) }
     ensures journal { LogsActs D.Disk log.old log.new room seat.old seat.new result }
@@ -40,7 +40,7 @@ pub fn take_part<D: Disk>(
         Ok(heard) => heard,
         Err(stop) => return Err(stop),
     };
-    match lead(log, seat, room, words) {
+    match lead(log, seat, room, draws) {
         Ok(led) => Ok(either(heard, led)),
         Err(stop) => Err(stop),
     }

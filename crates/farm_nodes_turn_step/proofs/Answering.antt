@@ -8,7 +8,7 @@ use Rattle.paxos_core_world.specs.Settled.{is_given}
 use Rattle.paxos_core_world.specs.declared.vote.Vote.{Vote}
 use Rattle.paxos_core_node_steps.specs.Acceptor.{is_vote, promises, accepts, after_propose}
 use Rattle.paxos_core_node_steps.specs.NodeState.{NodeState}
-use Rattle.paxos_core_node_steps.specs.Would.{after_act, next_vote, kept_by}
+use Rattle.paxos_core_node_steps.specs.Would.{after_act, next_vote, kept_by_step}
 use Rattle.paxos_core_node_steps.specs.declared.step.Act.TheVariants as core_act
 use Rattle.paxos_core_node_steps.specs.declared.step.Step.{Step}
 use Rattle.paxos_core_node_steps.specs.declared.step.Step.TheVariants as step
@@ -160,7 +160,7 @@ voted_if j s t (Some x) acted e =
     let did = did_of (act.Accept j) s t (step.Accept x.ballot x.value) acted told in
     inr record {
       given = x;
-      kept = acted.kept ∙ ap (λ (o : Option Step). kept_by o s.node.kept) told;
+      kept = acted.kept ∙ ap (λ (o : Option Step). kept_by_step o s.node.kept) told;
       ballot = seen.2;
       value = seen.1;
       above = leb-true s.node.kept.promised x.ballot (and_parts (is_vote s.node.quorums.nodes x) (leb s.node.kept.promised x.ballot) seen.0).1;
@@ -177,7 +177,7 @@ promised_if j s t true e acted =
     let told : would s (act.Promise j) ≡ Some (step.Promise (proposer_of s j).started) = ap (λ (u : Bool). option_map step.Promise (cond u (Some (proposer_of s j).started) None)) e in
     let did = did_of (act.Promise j) s t (step.Promise (proposer_of s j).started) acted told in
     inr record {
-      kept = acted.kept ∙ ap (λ (o : Option Step). kept_by o s.node.kept) told;
+      kept = acted.kept ∙ ap (λ (o : Option Step). kept_by_step o s.node.kept) told;
       above = ltb-true s.node.kept.promised (proposer_of s j).started e;
       way = ap (λ (u : SeatState). u.node.ballot) did.after ∙ ballot_if (promises s.node (proposer_of s j).started) s.node (record s.node { kept = with_promise (proposer_of s j).started s.node.kept }) refl;
     }

@@ -7,8 +7,8 @@ use Rattle.durable_model.specs.Moments.{LeavesOnly, started, composed}
 use Rattle.acceptor_log_form.specs.declared.header.Header.{Header}
 use Rattle.acceptor_log_form.specs.declared.record.Record.{Record}
 use Rattle.acceptor_log_form.specs.Text.{room_of, StandsFor}
-use Rattle.acceptor_log_form.specs.Leaves.{kept_by, kept_in, proposed_in}
-use Rattle.acceptor_log_form.specs.Order.{AreInOrder, GoesOn}
+use Rattle.acceptor_log_form.specs.Leaves.{kept_by_record, kept_in, proposed_in}
+use Rattle.acceptor_log_form.specs.Order.{AreInOrder, MayFollow}
 use Rattle.acceptor_log_form.specs.Lists.{Begins, Between}
 use Rattle.acceptor_log_writing.specs.OneOf.{Either}
 use Rattle.acceptor_log_form.proofs.Between.{between-two}
@@ -77,7 +77,7 @@ module _ {D : Type 0} (seen : D → List ℕ) (may_leave : D → List ℕ → Ty
       → Goes old new room s t (acknowledged seen new) []
   one is_honest old new room s t r follows header ready added run = record {
     longer = (r ∷ [], added);
-    kept = λ e. ap (λ (rs : List Record). kept_in rs room) added ∙ (kept_own (acknowledged seen old) r room follows.own ∙ (ap (λ (x : KeptPart). kept_by x r) e ∙ follows.step));
+    kept = λ e. ap (λ (rs : List Record). kept_in rs room) added ∙ (kept_own (acknowledged seen old) r room follows.own ∙ (ap (λ (x : KeptPart). kept_by_record x r) e ∙ follows.step));
     others = λ m other. ap (λ (rs : List Record). kept_in rs m) added ∙ kept_other (acknowledged seen old) r m (λ e. other (sym e ∙ follows.own));
     named = λ rooms low are. subst (λ (rs : List Record). AreOf rooms rs) (sym added) (more_of rooms (acknowledged seen old) r (subst (λ (m : ℕ). m < rooms) (sym follows.own) low) are);
     me = follows.me;
@@ -98,7 +98,7 @@ module _ {D : Type 0} (seen : D → List ℕ) (may_leave : D → List ℕ → Ty
 
   -- one record may have been put down
   pub perhaps : (old new : Log D) (room : ℕ) (s : SeatState) (r : Record) → room_of r ≡ room
-      → ((last : ℕ) → IsUnproposed last s → GoesOn s.node.quorums.nodes s.node.me s.node.kept last r)
+      → ((last : ℕ) → IsUnproposed last s → MayFollow s.node.quorums.nodes s.node.me s.node.kept last r)
       → ((c : List ℕ) → may_leave new.disk c → moment old.disk ≤ moment new.disk → left_since new.disk (moment old.disk) c)
       → LeavesOnly moment left_since old.disk new.disk (Between old.header (acknowledged seen old) (acknowledged seen old ++ r ∷ []))
       → Goes old new room s s (acknowledged seen old) (r ∷ [])

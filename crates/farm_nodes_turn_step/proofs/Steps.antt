@@ -14,7 +14,7 @@ use Rattle.paxos_core_node_steps.specs.declared.step.Step.TheVariants as step
 use Rattle.acceptor_log_form.specs.declared.errors.LogError.{LogError}
 use Rattle.acceptor_log_form.specs.declared.errors.LogError.TheVariants.{NoMemory, Device, NotAJournal, BadRecord, OtherSource, Stopped, Full}
 use Rattle.acceptor_log_form.specs.declared.record.Record.{Record}
-use Rattle.acceptor_log_form.specs.Leaves.{kept_by}
+use Rattle.acceptor_log_form.specs.Leaves.{kept_by_record}
 use Rattle.acceptor_log.specs.declared.log.Log.{Log}
 use Rattle.acceptor_log.specs.Acknowledged.{IsNoFault}
 use Rattle.rooms_crash.specs.Act.{Act}
@@ -45,7 +45,7 @@ none_acted a s e =
     record {
       stepped = subst (λ (o : Option Step). IfSome o (λ x. Did (act_of x) (proposed_by_step x s.proposed) s s)) (sym e) tt;
       idle = λ n. refl;
-      kept = ap (λ (o : Option Step). core.kept_by o s.node.kept) (sym e);
+      kept = ap (λ (o : Option Step). core.kept_by_step o s.node.kept) (sym e);
       table = refl;
       me = refl;
       quorums = refl;
@@ -77,10 +77,10 @@ told_byte s (act.Accept j) x bounds e =
     e
 
 -- it leaves of the room what the step leaves of the seat
-pub step_kept : (room : ℕ) (s t : SeatState) (a : Act) (x : Step) (r : Record) → Some x ≡ would s a → r ≡ record_of room x → Acted a s t → kept_by s.node.kept r ≡ t.node.kept
+pub step_kept : (room : ℕ) (s t : SeatState) (a : Act) (x : Step) (r : Record) → Some x ≡ would s a → r ≡ record_of room x → Acted a s t → kept_by_record s.node.kept r ≡ t.node.kept
 step_kept room s t a x r told is acted =
-    ap (λ (q : Record). kept_by s.node.kept q) is
-    ∙ (kept_step room x s.node.kept ∙ (ap (λ (o : Option Step). core.kept_by o s.node.kept) told ∙ sym acted.kept))
+    ap (λ (q : Record). kept_by_record s.node.kept q) is
+    ∙ (kept_step room x s.node.kept ∙ (ap (λ (o : Option Step). core.kept_by_step o s.node.kept) told ∙ sym acted.kept))
 
 pub pending_is : (room : ℕ) (s : SeatState) (a : Act) (x : Step) (r : Record) → Some x ≡ would s a → r ≡ record_of room x → records_of room (would s a) ≡ r ∷ []
 pending_is room s a x r told is = ap (records_of room) (sym told) ∙ ap (λ (q : Record). q ∷ []) (sym is)

@@ -15,7 +15,7 @@ pub trait Oracle {
         &mut self,
         alloc: Global,
         input: &<<Self::P as Pass>::In as Language>::Fun,
-        words: &mut Pcg32,
+        draws: &mut Pcg32,
     ) -> Result<
         Option<
             (

@@ -69,12 +69,12 @@ pub fn choose<P: Pass, B: Baselines<P>, O: Oracle<P = P>>(
     alloc: Global,
     oracle: &mut O,
     input: &<P::In as Language>::Fun,
-    words: &mut Pcg32,
+    draws: &mut Pcg32,
 ) -> Result<Choice<P>, PassError>
     ensures input { IfOk result (λ made. made.offer.input ≡ input.now) }
     ensures baseline { IfOk result (λ made. IsElseBaseline B.is_baseline made.is_proposal made.offer) }
     ensures refused { IfErr result (λ e. e ≢ PassError.NoMemory → P.too_large input.now) }
 {
-    let proposal = oracle.propose(alloc, input, words)?;
+    let proposal = oracle.propose(alloc, input, draws)?;
     choice_of::<P, B>(alloc, input, proposal)
 }

@@ -36,13 +36,13 @@ pub(crate) fn assignment_for(
     alloc: Global,
     registers: u16,
     interference: &Interference,
-    words: &mut Pcg32,
+    draws: &mut Pcg32,
 ) -> Result<Option<Assignment>, NoMemory> {
     let mut assignment = Assignment::none(alloc, registers)?;
     let mut holders = holders_of(alloc, registers)?;
     for register in 0..registers {
         let free = free_for(&holders, interference, register);
-        match chosen(free, words.next_word()) {
+        match chosen(free, draws.next_word()) {
             Some(machine_register) => {
                 hold(&mut holders, interference, register, machine_register);
                 assignment.give(register, Location::InRegister(machine_register));

@@ -24,9 +24,9 @@ impl Oracle for AllocOracle {
         &mut self,
         alloc: Global,
         input: &rtl_language::Function,
-        words: &mut Pcg32,
+        draws: &mut Pcg32,
     ) -> Result<Option<(Function, EquationLists)>, NoMemory> {
-        allocate(alloc, input, words)
+        allocate(alloc, input, draws)
     }
 }
 
@@ -34,13 +34,13 @@ impl Oracle for AllocOracle {
 fn allocate(
     alloc: Global,
     input: &rtl_language::Function,
-    words: &mut Pcg32,
+    draws: &mut Pcg32,
 ) -> Result<Option<(Function, EquationLists)>, NoMemory> {
     let live = live_before(alloc, input.registers(), input.nodes().as_slice())?;
     let interference = interference_of(alloc, input, &live)?;
-    match assignment_for(alloc, input.registers(), &interference, words)? {
+    match assignment_for(alloc, input.registers(), &interference, draws)? {
         None => Ok(None),
-        Some(assignment) => with_assignment(alloc, input, &live, &assignment, words),
+        Some(assignment) => with_assignment(alloc, input, &live, &assignment, draws),
     }
 }
 
@@ -50,13 +50,13 @@ fn with_assignment(
     input: &rtl_language::Function,
     live: &[RegisterSet],
     assignment: &Assignment,
-    words: &mut Pcg32,
+    draws: &mut Pcg32,
 ) -> Result<Option<(Function, EquationLists)>, NoMemory> {
     let parameters = locations_of(alloc, assignment, input.parameters().as_slice())?;
     if !are_distinct(&parameters) {
         return Ok(None);
     }
-    let left_out = needless(alloc, input.nodes().as_slice(), live, words)?;
+    let left_out = needless(alloc, input.nodes().as_slice(), live, draws)?;
     let blocks = blocks_of(alloc, input, assignment, &left_out)?;
     let feeders = feeders_of(alloc, input)?;
     let equations = rows_of(alloc, assignment, &feeders, live)?;

@@ -17,14 +17,14 @@ fn is_live(live: &[RegisterSet], node: u16, register: Register) -> bool {
 
 /// Whether nothing is to be done for the instruction: its result is not used behind it, and it is a
 /// move, or else the next word is odd.
-fn is_needless(live: &[RegisterSet], instruction: &Instruction, words: &mut Pcg32) -> bool {
+fn is_needless(live: &[RegisterSet], instruction: &Instruction, draws: &mut Pcg32) -> bool {
     let Instruction::Do { act, successor } = instruction else {
         return false;
     };
     match act {
         Act::Move { target, .. } => !is_live(live, *successor, *target),
         Act::Constant { target, .. } | Act::Operate { target, .. } | Act::Load { target, .. } => {
-            !is_live(live, *successor, *target) && words.next_word() % 2 == 1
+            !is_live(live, *successor, *target) && draws.next_word() % 2 == 1
         }
         Act::Nop | Act::Store { .. } | Act::Put { .. } => false,
     }
@@ -35,11 +35,11 @@ pub(crate) fn needless(
     alloc: Global,
     nodes: &[Instruction],
     live: &[RegisterSet],
-    words: &mut Pcg32,
+    draws: &mut Pcg32,
 ) -> Result<Vec<bool>, NoMemory> {
     let mut told = Vec::new(alloc);
     for instruction in nodes {
-        told.push(is_needless(live, instruction, words))?;
+        told.push(is_needless(live, instruction, draws))?;
     }
     Ok(told)
 }

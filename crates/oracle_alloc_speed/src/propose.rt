@@ -31,11 +31,11 @@ impl Oracle for AllocSpeed {
         &mut self,
         alloc: Global,
         input: &rtl_language::Function,
-        words: &mut Pcg32,
+        draws: &mut Pcg32,
     ) -> Result<Option<(Function, EquationLists)>, NoMemory> {
-        let heuristic = u8::try_from(words.next_word() % 8).unwrap_or(0);
+        let heuristic = u8::try_from(draws.next_word() % 8).unwrap_or(0);
         match allocate(alloc, input, heuristic)? {
-            None => AllocOracle.propose(alloc, input, words),
+            None => AllocOracle.propose(alloc, input, draws),
             made => Ok(made),
         }
     }

@@ -17,9 +17,9 @@ impl Oracle for ConstOracle {
         &mut self,
         alloc: Global,
         input: &Function,
-        words: &mut Pcg32,
+        draws: &mut Pcg32,
     ) -> Result<Option<(Function, FactLists)>, NoMemory> {
-        Ok(Some(proposed(alloc, Constants, input, words)?))
+        Ok(Some(proposed(alloc, Constants, input, draws)?))
     }
 }
 
@@ -34,7 +34,7 @@ impl Oracle for ConstSpeed {
         &mut self,
         alloc: Global,
         input: &Function,
-        _words: &mut Pcg32,
+        _draws: &mut Pcg32,
     ) -> Result<Option<(Function, FactLists)>, NoMemory> {
         let mut chooser = Each;
         Ok(Some(proposed(alloc, Constants, input, &mut chooser)?))

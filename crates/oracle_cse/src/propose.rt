@@ -19,10 +19,10 @@ impl Oracle for CseOracle {
         &mut self,
         alloc: Global,
         input: &Function,
-        words: &mut Pcg32,
+        draws: &mut Pcg32,
     ) -> Result<Option<(Function, EquationLists)>, NoMemory> {
         let numbering = Numbering::of(alloc, input.nodes().as_slice())?;
-        Ok(Some(proposed(alloc, numbering, input, words)?))
+        Ok(Some(proposed(alloc, numbering, input, draws)?))
     }
 }
 
@@ -37,7 +37,7 @@ impl Oracle for CseSpeed {
         &mut self,
         alloc: Global,
         input: &Function,
-        _words: &mut Pcg32,
+        _draws: &mut Pcg32,
     ) -> Result<Option<(Function, EquationLists)>, NoMemory> {
         let nodes = input.nodes().as_slice();
         let numbering = Numbering::of(alloc, nodes)?;

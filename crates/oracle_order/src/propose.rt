@@ -18,10 +18,10 @@ impl Oracle for OrderOracle {
         &mut self,
         alloc: Global,
         input: &Function,
-        words: &mut Pcg32,
+        draws: &mut Pcg32,
     ) -> Result<Option<(linear_language::Function, Order)>, NoMemory> {
         let reached = rising(alloc, input)?;
-        let nodes = drawn(alloc, reached.as_slice(), words)?;
+        let nodes = drawn(alloc, reached.as_slice(), draws)?;
         arrange(alloc, input, nodes)
     }
 }
@@ -37,7 +37,7 @@ impl Oracle for OrderSpeed {
         &mut self,
         alloc: Global,
         input: &Function,
-        _words: &mut Pcg32,
+        _draws: &mut Pcg32,
     ) -> Result<Option<(linear_language::Function, Order)>, NoMemory> {
         let reached = rising(alloc, input)?;
         let nodes = chained(alloc, input.blocks().as_slice(), reached.as_slice())?;
@@ -46,7 +46,7 @@ impl Oracle for OrderSpeed {
 }
 
 /// The first node, and then the others as they are drawn.
-fn drawn(alloc: Global, nodes: &[u16], words: &mut Pcg32) -> Result<Vec<u16>, NoMemory> {
+fn drawn(alloc: Global, nodes: &[u16], draws: &mut Pcg32) -> Result<Vec<u16>, NoMemory> {
     let mut order = Vec::new(alloc);
     let Some((first, others)) = nodes.split_first() else {
         return Ok(order);
@@ -54,7 +54,7 @@ fn drawn(alloc: Global, nodes: &[u16], words: &mut Pcg32) -> Result<Vec<u16>, No
     order.push(*first)?;
     let mut left = others.to_vec(alloc)?;
     while !left.is_empty() {
-        let place = words.next_word() as usize % left.len();
+        let place = draws.next_word() as usize % left.len();
         order.push(left.swap_remove(place))?;
     }
     Ok(order)

@@ -12,7 +12,7 @@ use Rattle.paxos_core_theorem.specs.Agreement.{LearnsAs}
 use Rattle.paxos_core_node_steps.specs.NodeState.{NodeState}
 use Rattle.paxos_core_node_steps.specs.Reached.{IsReached}
 use Rattle.paxos_core_node_steps.specs.Takes.{AreStepsOf}
-use Rattle.paxos_core_node_steps.specs.Would.{would, kept_by}
+use Rattle.paxos_core_node_steps.specs.Would.{would, kept_by_step}
 use Rattle.paxos_core_node_steps.specs.declared.step.Act.{Act}
 use Rattle.paxos_core_node_steps.specs.declared.step.Act.TheVariants as act
 use Rattle.paxos_core_late_offers.specs.LateOffer.{BelongsWithLateOffer}
@@ -53,7 +53,7 @@ WasSent w (ToDo (act.Accept b v)) = Has (Propose b v) w.sent
 abbrev pub journal_of : NodeState → Waiting → KeptPart
 journal_of s Nothing = s.kept
 journal_of s ToOffer = with_offer s.kept
-journal_of s (ToDo asked) = kept_by (would s asked) s.kept
+journal_of s (ToDo asked) = kept_by_step (would s asked) s.kept
 
 -- ---- the promises
 

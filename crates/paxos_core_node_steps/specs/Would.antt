@@ -55,16 +55,16 @@ labels_of i None = []
 labels_of i (Some s) = label_of i s ∷ []
 
 -- what a step, where there is one, makes of its node's kept part
-abbrev pub kept_by : Option Step → KeptPart → KeptPart
-kept_by None k = k
-kept_by (Some (step.Start b)) k = with_start b k
-kept_by (Some (step.Promise b)) k = with_promise b k
-kept_by (Some (step.Propose b v)) k = k
-kept_by (Some (step.Accept b v)) k = with_vote (vote b v) k
+abbrev pub kept_by_step : Option Step → KeptPart → KeptPart
+kept_by_step None k = k
+kept_by_step (Some (step.Start b)) k = with_start b k
+kept_by_step (Some (step.Promise b)) k = with_promise b k
+kept_by_step (Some (step.Propose b v)) k = k
+kept_by_step (Some (step.Accept b v)) k = with_vote (vote b v) k
 
 -- a node that told this step and is t after s took that step and no other, which alone changed what is kept; and if it told
 -- none, it changed nothing
 pub record IsDone (s t : NodeState) (taken : List Label) (told : Option Step) : Type 0 where
   pub steps : taken ≡ labels_of s.me told
-  pub kept : t.kept ≡ kept_by told s.kept
+  pub kept : t.kept ≡ kept_by_step told s.kept
   pub idle : told ≡ None → t ≡ s

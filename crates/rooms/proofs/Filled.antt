@@ -2,7 +2,7 @@
 use Rattle.std.proofs.Common.{◌≡◌, ℕ, zero, suc, ◌<◌, ◌⊎◌, false, true, List, [], ◌∷◌, length, set, get_or-set_same, get_or-set_other, Option, Some, None, IsSome, is_some, refl, sym, ap, ◌∙◌, subst, inl, inr}
 use native.Mathlib.Decide.{ℕ_discrete}
 use Rattle.std.proofs.lemmas.List.{length-map}
-use Rattle.paxos_core_node_steps.specs.Would.{kept_by}
+use Rattle.paxos_core_node_steps.specs.Would.{kept_by_step}
 use Rattle.paxos_core_node_steps.specs.declared.step.Step.{Step}
 use Rattle.paxos_core_node_steps.specs.declared.step.Step.TheVariants as step
 use Rattle.paxos_core_world.specs.KeptPart.{KeptPart, nothing_kept}
@@ -10,7 +10,7 @@ use Rattle.paxos_core_world.specs.Quorum.{Sizes}
 use Rattle.paxos_core_world.specs.World.{nodes_of}
 use Rattle.rooms_cells.specs.declared.sight.Put.{Put}
 use Rattle.rooms_cells.specs.declared.sight.Put.TheVariants as put
-use Rattle.rooms_cells.specs.Seen.{SightOf, Read, Stays, nothing_seen, sight_at, unseen, value_at}
+use Rattle.rooms_cells.specs.Seen.{SightOf, Read, StaysSeen, nothing_seen, sight_at, unseen, value_at}
 use Rattle.rooms_seat.specs.Act.{Act}
 use Rattle.rooms_seat.specs.Opening.{Opening}
 use Rattle.rooms_seat.specs.RoomAt.{RoomAt}
@@ -31,7 +31,7 @@ filled_still {T} old new ss me offered h e = subst (λ (j : ℕ). IsSome (value_
 pub filled_kept : {T : Type 0} (old new : SeatState) (ss : List (SightOf T)) → new.node.me ≡ old.node.me → new.node.kept ≡ old.node.kept → IsFilled (seat_of old ss) → IsFilled (seat_of new ss)
 filled_kept {T} old new ss me kept h = filled_still {T = T} old new ss me (ap (λ (k : KeptPart). k.offered) kept) h
 
-offered_by : (o : Option Step) (k : KeptPart) → (kept_by o k).offered ≡ k.offered
+offered_by : (o : Option Step) (k : KeptPart) → (kept_by_step o k).offered ≡ k.offered
 offered_by None k = refl
 offered_by (Some (step.Start b)) k = refl
 offered_by (Some (step.Promise b)) k = refl
@@ -44,7 +44,7 @@ filled_acted {T} a old new ss acted h =
 
 -- ---- what is seen of a cell
 
-some_stays : {T : Type 0} (a b : Option T) → Stays a b → IsSome a → IsSome b
+some_stays : {T : Type 0} (a b : Option T) → StaysSeen a b → IsSome a → IsSome b
 some_stays {T} None b stays some = absurd (cc)
 some_stays {T} (Some x) b stays some = subst (λ (o : Option T). IsSome o) (sym stays) refl
 

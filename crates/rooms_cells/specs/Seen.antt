@@ -37,14 +37,14 @@ abbrev pub names_of : {T : Type 0} → List (SightOf T) → List ℕ
 names_of sights = map (λ s. s.cell) sights
 
 -- what was seen stays
-abbrev pub Stays : {T : Type 0} → Option T → Option T → Type 0
-Stays before after = IfSome before (λ x. after ≡ Some x)
+abbrev pub StaysSeen : {T : Type 0} → Option T → Option T → Type 0
+StaysSeen before after = IfSome before (λ x. after ≡ Some x)
 
 -- cell j alone was read
 pub record Read {T : Type 0} (j : ℕ) (old new : List (SightOf T)) : Type 0 where
   pub at : SightOf T
   pub cell : at.cell ≡ (sight_at old j).cell
-  pub stays : Stays (value_at old j) at.value
+  pub stays : StaysSeen (value_at old j) at.value
   pub after : new ≡ slice_set old j at
 
 -- nothing is seen of these cells

@@ -10,7 +10,7 @@ use Rattle.paxos_core_world.specs.declared.vote.Vote.{Vote}
 use Rattle.paxos_core_node_steps.specs.Acceptor.{promises}
 use Rattle.paxos_core_node_steps.specs.NodeState.{NodeState, offered}
 use Rattle.paxos_core_node_steps.specs.Reached.{IsReached}
-use Rattle.paxos_core_node_steps.specs.Would.{kept_by, next_promise, next_vote}
+use Rattle.paxos_core_node_steps.specs.Would.{kept_by_step, next_promise, next_vote}
 use Rattle.paxos_core_node_steps.specs.declared.step.Act.TheVariants as core_act
 use Rattle.paxos_core_node_steps.specs.declared.step.Step.TheVariants as step
 use Rattle.paxos_core_crash.specs.LateOffer.{BelongsWithLateOffer}
@@ -46,21 +46,21 @@ module _ (q : Sizes) (w : World) (n : NodeState) (r : IsReached q w) (h : Belong
   idle : Recorded n.kept
   idle = journals_are_recorded q w n Nothing r h tt
 
-  with_no_ballot : (t : Bool) → promises n 0 ≡ t → Recorded (kept_by (option_map step.Promise (cond t (Some 0) None)) n.kept)
+  with_no_ballot : (t : Bool) → promises n 0 ≡ t → Recorded (kept_by_step (option_map step.Promise (cond t (Some 0) None)) n.kept)
   with_no_ballot true e = let low : n.kept.promised < 0 = ltb-true n.kept.promised 0 e in absurd (omega (arith, low))
   with_no_ballot false e = idle
 
-  with_promise_of : (b : ℕ) → (1 ≤ b → Has (Prepare b) w.sent) → Recorded (kept_by (option_map step.Promise (next_promise n b)) n.kept)
+  with_promise_of : (b : ℕ) → (1 ≤ b → Has (Prepare b) w.sent) → Recorded (kept_by_step (option_map step.Promise (next_promise n b)) n.kept)
   with_promise_of zero sent = with_no_ballot (promises n 0) refl
   with_promise_of (suc b) sent = journals_are_recorded q w n (ToDo (core_act.Promise (suc b))) r h (sent (omega arith))
 
   with_vote_if : (t : Bool) (b v : ℕ) → Has (Propose b v) w.sent
-      → Recorded (kept_by (option_map (λ (x : Vote). step.Accept x.ballot x.value) (cond t None (next_vote n (vote b v)))) n.kept)
+      → Recorded (kept_by_step (option_map (λ (x : Vote). step.Accept x.ballot x.value) (cond t None (next_vote n (vote b v)))) n.kept)
   with_vote_if true b v sent = idle
   with_vote_if false b v sent = journals_are_recorded q w n (ToDo (core_act.Accept b v)) r h sent
 
   with_vote_of : (b : ℕ) (p : Option ℕ) → ((v : ℕ) → p ≡ Some v → Has (Propose b v) w.sent)
-      → Recorded (kept_by (option_map (λ (x : Vote). step.Accept x.ballot x.value) (vote_by n b p)) n.kept)
+      → Recorded (kept_by_step (option_map (λ (x : Vote). step.Accept x.ballot x.value) (vote_by n b p)) n.kept)
   with_vote_of b None sent = idle
   with_vote_of b (Some v) sent = with_vote_if (is_given (vote b v) n.kept.accepted) b v (sent v refl)
 
@@ -79,7 +79,7 @@ module _ (s : SeatState) (stands : StandsInRun s) where
   among : (j : ℕ) → j < s.node.quorums.nodes → j < q.nodes
   among j lt = subst (λ (k : ℕ). j < k) (ap (λ (x : Sizes). x.nodes) stands.quorums) lt
 
-  asked : (a : Act) → IsAmong s.node.quorums.nodes a → IsRecorded q (seen_world s) s.node.me (kept_by (would s a) s.node.kept)
+  asked : (a : Act) → IsAmong s.node.quorums.nodes a → IsRecorded q (seen_world s) s.node.me (kept_by_step (would s a) s.node.kept)
   asked act.Start lt = journals_are_recorded q (seen_world s) s.node (ToDo core_act.Start) reached belongs tt
   asked (act.Promise j) lt =
       with_promise_of q (seen_world s) s.node reached belongs (proposer_of s j).started (stands.proposers j (among j lt)).prepare

@@ -16,7 +16,7 @@ use Rattle.rooms.proofs.Filled.{fit_offers}
 use Rattle.rooms.specs.SeatValue.{SeatValue}
 use Rattle.rooms.specs.declared.error.RoomError.{RoomError}
 use Rattle.rooms.specs.declared.error.RoomError.TheVariants.{CellRefused, NoMemory, Unsettled}
-use Rattle.rooms_function.specs.Opened.{kept_in, place, seven_parts, AreDealersOf, AreDealtBy, AreFresh, AreSeatsOf, AreSettled, IsLowest, IsOfferedIn, IsSettledIn, IsUndealt, IsUnopened}
+use Rattle.rooms_function.specs.Opened.{kept_of_pass, place, seven_parts, AreDealersOf, AreDealtBy, AreFresh, AreSeatsOf, AreSettled, IsLowest, IsOfferedIn, IsSettledIn, IsUndealt, IsUnopened}
 use Rattle.rooms_function.specs.declared.opening.FunctionOffers.{FunctionOffers}
 use Rattle.rooms_function.specs.declared.seat.FunctionSeat.{FunctionSeat}
 
@@ -35,15 +35,15 @@ first_parts (a ∷ b ∷ c ∷ d ∷ e ∷ f ∷ g ∷ []) le = refl
 first_parts (a ∷ b ∷ c ∷ d ∷ e ∷ f ∷ g ∷ h ∷ parts) le = absurd (omega arith)
 
 module _ (kept : List (List KeptPart)) where
-  pub many : (pass : ℕ) → length (kept_in pass kept) ≡ length kept
+  pub many : (pass : ℕ) → length (kept_of_pass pass kept) ≡ length kept
   many pass = length-map kept (λ parts. nodes_of parts pass)
 
   -- the row of a pass, up to the number of the nodes
-  pub row_is : (pass n : ℕ) (row : List KeptPart) → row ≡ seven_parts (kept_in pass kept) → length kept ≡ n → n ≤ 7 → take n row ≡ kept_in pass kept
+  pub row_is : (pass n : ℕ) (row : List KeptPart) → row ≡ seven_parts (kept_of_pass pass kept) → length kept ≡ n → n ≤ 7 → take n row ≡ kept_of_pass pass kept
   row_is pass n row e size most =
-      let many_here : length (kept_in pass kept) ≡ n = many pass ∙ size in
+      let many_here : length (kept_of_pass pass kept) ≡ n = many pass ∙ size in
       ap (λ (r : List KeptPart). take n r) e
-      ∙ subst (λ (m : ℕ). take m (seven_parts (kept_in pass kept)) ≡ kept_in pass kept) many_here (first_parts (kept_in pass kept) (omega (arith, many_here, most)))
+      ∙ subst (λ (m : ℕ). take m (seven_parts (kept_of_pass pass kept)) ≡ kept_of_pass pass kept) many_here (first_parts (kept_of_pass pass kept) (omega (arith, many_here, most)))
 
 -- ---- in front of a pass
 
@@ -68,11 +68,11 @@ module _ (q : Sizes) (kept : List (List KeptPart)) where
       }
 
   -- the row of a pass in which all is settled is so itself
-  pub settled_row : (pass n : ℕ) (row : List KeptPart) → row ≡ seven_parts (kept_in pass kept) → length kept ≡ n → n ≤ 7 → IsSettledIn q kept pass → Settled q (nodes_of (take n row))
+  pub settled_row : (pass n : ℕ) (row : List KeptPart) → row ≡ seven_parts (kept_of_pass pass kept) → length kept ≡ n → n ≤ 7 → IsSettledIn q kept pass → Settled q (nodes_of (take n row))
   settled_row pass n row e size most s = subst (λ (k : List KeptPart). Settled q (nodes_of k)) (sym (row_is kept pass n row e size most)) s
 
 -- they are the dealers of the rooms of these kept parts
-pub dealers_ok : {E : Type 0} (number : ℕ) (q : Sizes) (kept : List (List KeptPart)) (r : Result FourDealers E) (a b c d : List KeptPart) → a ≡ kept_in 0 kept → b ≡ kept_in 1 kept → c ≡ kept_in 2 kept → d ≡ kept_in 3 kept
+pub dealers_ok : {E : Type 0} (number : ℕ) (q : Sizes) (kept : List (List KeptPart)) (r : Result FourDealers E) (a b c d : List KeptPart) → a ≡ kept_of_pass 0 kept → b ≡ kept_of_pass 1 kept → c ≡ kept_of_pass 2 kept → d ≡ kept_of_pass 3 kept
     → IfOk r (λ all. all.first ≡ room_opened all.first.table.table number 4 0 q a) → IfOk r (λ all. all.second ≡ room_opened all.first.table.table number 4 1 q b)
     → IfOk r (λ all. all.third ≡ room_opened all.first.table.table number 4 2 q c) → IfOk r (λ all. all.fourth ≡ room_opened all.first.table.table number 4 3 q d) → IfOk r (λ all. AreDealersOf number q kept all)
 dealers_ok number q kept (Err x) a b c d ea eb ec ed first second third fourth = tt
@@ -105,8 +105,8 @@ module _ (number : ℕ) (q : Sizes) (kept : List (List KeptPart)) (offers : Func
       → AreOffersOf parts os → AreFit d.opening os
   fit {T} room parts os d e size of = fit_offers {T = T} q parts os d.opening (size ∙ nodes) (ap (λ (x : Dealing). x.opening) e) of
 
-  pub fresh : AreOffersOf (kept_in 0 kept) offers.first.items → AreOffersOf (kept_in 1 kept) offers.second.items
-      → AreOffersOf (kept_in 2 kept) offers.third.items → AreOffersOf (kept_in 3 kept) offers.fourth.items → AreFresh all offers
+  pub fresh : AreOffersOf (kept_of_pass 0 kept) offers.first.items → AreOffersOf (kept_of_pass 1 kept) offers.second.items
+      → AreOffersOf (kept_of_pass 2 kept) offers.third.items → AreOffersOf (kept_of_pass 3 kept) offers.fourth.items → AreFresh all offers
   fresh o1 o2 o3 o4 =
       let c1 : all.first.opening.quorums.nodes ≡ q.nodes = ap (λ (d : Dealing). d.opening.quorums.nodes) are.first in
       let c2 : all.second.opening.quorums.nodes ≡ q.nodes = ap (λ (d : Dealing). d.opening.quorums.nodes) are.second in
@@ -124,10 +124,10 @@ module _ (number : ℕ) (q : Sizes) (kept : List (List KeptPart)) (offers : Func
         offers2 = o2.size ∙ (many kept 1 ∙ (nodes ∙ sym c2));
         offers3 = o3.size ∙ (many kept 2 ∙ (nodes ∙ sym c3));
         offers4 = o4.size ∙ (many kept 3 ∙ (nodes ∙ sym c4));
-        fit1 = fit 0 (kept_in 0 kept) offers.first.items all.first are.first (many kept 0) o1;
-        fit2 = fit 1 (kept_in 1 kept) offers.second.items all.second are.second (many kept 1) o2;
-        fit3 = fit 2 (kept_in 2 kept) offers.third.items all.third are.third (many kept 2) o3;
-        fit4 = fit 3 (kept_in 3 kept) offers.fourth.items all.fourth are.fourth (many kept 3) o4;
+        fit1 = fit 0 (kept_of_pass 0 kept) offers.first.items all.first are.first (many kept 0) o1;
+        fit2 = fit 1 (kept_of_pass 1 kept) offers.second.items all.second are.second (many kept 1) o2;
+        fit3 = fit 2 (kept_of_pass 2 kept) offers.third.items all.third are.third (many kept 2) o3;
+        fit4 = fit 3 (kept_of_pass 3 kept) offers.fourth.items all.fourth are.fourth (many kept 3) o4;
       }
 
   dealt_at : {T : Type 0} (room : ℕ) (parts : List KeptPart) (os : List (Option T)) (d : Dealing) (seats : List (SeatValue T)) → d ≡ room_opened all.first.table.table number 4 room q parts
@@ -138,10 +138,10 @@ module _ (number : ℕ) (q : Sizes) (kept : List (List KeptPart)) (offers : Func
   seats_are seats h =
       record {
         table = all.first.table.table;
-        first = dealt_at 0 (kept_in 0 kept) offers.first.items all.first (map (λ s. s.first) seats) are.first h.first;
-        second = dealt_at 1 (kept_in 1 kept) offers.second.items all.second (map (λ s. s.second) seats) are.second h.second;
-        third = dealt_at 2 (kept_in 2 kept) offers.third.items all.third (map (λ s. s.third) seats) are.third h.third;
-        fourth = dealt_at 3 (kept_in 3 kept) offers.fourth.items all.fourth (map (λ s. s.fourth) seats) are.fourth h.fourth;
+        first = dealt_at 0 (kept_of_pass 0 kept) offers.first.items all.first (map (λ s. s.first) seats) are.first h.first;
+        second = dealt_at 1 (kept_of_pass 1 kept) offers.second.items all.second (map (λ s. s.second) seats) are.second h.second;
+        third = dealt_at 2 (kept_of_pass 2 kept) offers.third.items all.third (map (λ s. s.third) seats) are.third h.third;
+        fourth = dealt_at 3 (kept_of_pass 3 kept) offers.fourth.items all.fourth (map (λ s. s.fourth) seats) are.fourth h.fourth;
       }
 
 -- ---- what is told

@@ -16,12 +16,12 @@ use Rattle.rooms_function.specs.declared.opening.FunctionOffers.{FunctionOffers}
 use Rattle.rooms_function.specs.declared.seat.FunctionSeat.{FunctionSeat}
 
 -- what the nodes have kept in the room of a pass, the first pass's being 0
-abbrev pub kept_in : ℕ → List (List KeptPart) → List KeptPart
-kept_in pass kept = map (λ parts. nodes_of parts pass) kept
+abbrev pub kept_of_pass : ℕ → List (List KeptPart) → List KeptPart
+kept_of_pass pass kept = map (λ parts. nodes_of parts pass) kept
 
 -- that is settled, with quorums of these sizes
 abbrev pub IsSettledIn : Sizes → List (List KeptPart) → ℕ → Type 0
-IsSettledIn q kept pass = Settled q (nodes_of (kept_in pass kept))
+IsSettledIn q kept pass = Settled q (nodes_of (kept_of_pass pass kept))
 
 -- so it is in each pass
 abbrev pub AreSettled : Sizes → List (List KeptPart) → Type 0
@@ -67,17 +67,17 @@ place table number room = record { table = table; rooms = 4; room = room; number
 -- they are the nodes' seats, and in each pass those of the room of that pass in one table, which has this number
 pub record AreSeatsOf (number : ℕ) (q : Sizes) (kept : List (List KeptPart)) (offers : FunctionOffers) (seats : List FunctionSeat) : Type 0 where
   pub table : TableId
-  pub first : AreDealt (place table number 0) (opening_of q (kept_in 0 kept)) offers.first.items (map (λ s. s.first) seats)
-  pub second : AreDealt (place table number 1) (opening_of q (kept_in 1 kept)) offers.second.items (map (λ s. s.second) seats)
-  pub third : AreDealt (place table number 2) (opening_of q (kept_in 2 kept)) offers.third.items (map (λ s. s.third) seats)
-  pub fourth : AreDealt (place table number 3) (opening_of q (kept_in 3 kept)) offers.fourth.items (map (λ s. s.fourth) seats)
+  pub first : AreDealt (place table number 0) (opening_of q (kept_of_pass 0 kept)) offers.first.items (map (λ s. s.first) seats)
+  pub second : AreDealt (place table number 1) (opening_of q (kept_of_pass 1 kept)) offers.second.items (map (λ s. s.second) seats)
+  pub third : AreDealt (place table number 2) (opening_of q (kept_of_pass 2 kept)) offers.third.items (map (λ s. s.third) seats)
+  pub fourth : AreDealt (place table number 3) (opening_of q (kept_of_pass 3 kept)) offers.fourth.items (map (λ s. s.fourth) seats)
 
 -- they deal the seats of rooms that were opened so, in one table, which has this number
 pub record AreDealersOf (number : ℕ) (q : Sizes) (kept : List (List KeptPart)) (all : FourDealers) : Type 0 where
-  pub first : all.first ≡ room_opened all.first.table.table number 4 0 q (kept_in 0 kept)
-  pub second : all.second ≡ room_opened all.first.table.table number 4 1 q (kept_in 1 kept)
-  pub third : all.third ≡ room_opened all.first.table.table number 4 2 q (kept_in 2 kept)
-  pub fourth : all.fourth ≡ room_opened all.first.table.table number 4 3 q (kept_in 3 kept)
+  pub first : all.first ≡ room_opened all.first.table.table number 4 0 q (kept_of_pass 0 kept)
+  pub second : all.second ≡ room_opened all.first.table.table number 4 1 q (kept_of_pass 1 kept)
+  pub third : all.third ≡ room_opened all.first.table.table number 4 2 q (kept_of_pass 2 kept)
+  pub fourth : all.fourth ≡ room_opened all.first.table.table number 4 3 q (kept_of_pass 3 kept)
 
 -- none has dealt a seat, and each pass has so many nodes, and as many offers: those of the nodes that have made one
 pub record AreFresh (all : FourDealers) (offers : FunctionOffers) : Type 0 where

@@ -2,7 +2,7 @@ ghost use Rattle.std.specs.Prelude.{◌≡◌, ◌≢◌, ◌↔◌, ℕ, ◌+�
 ghost use Rattle.std.specs.Vec.Iter.{into_iter_items};
 ghost use Rattle.paxos_core_world.specs.World.{nodes_of};
 ghost use Rattle.rooms.specs.Opened.{AreOffersOf};
-ghost use Rattle.rooms_function.specs.Opened.{kept_in, seven_parts, AreDealersOf, AreDealtBy, AreFresh, AreSeatsOf, AreSettled, IsLowest, IsOfferedIn, IsSettledIn, IsUndealt, IsUnopened};
+ghost use Rattle.rooms_function.specs.Opened.{kept_of_pass, seven_parts, AreDealersOf, AreDealtBy, AreFresh, AreSeatsOf, AreSettled, IsLowest, IsOfferedIn, IsSettledIn, IsUndealt, IsUnopened};
 ghost use Rattle.rooms.specs.declared.error.RoomError.TheVariants as error;
 
 use crate::seat::FunctionSeat;
@@ -48,10 +48,10 @@ impl FunctionRoom {
         quorums: Quorums,
     ) -> Result<Vec<FunctionSeat>, Unopened>
         requires size { length kept.now ≡ quorums.nodes }
-        requires first { AreOffersOf (kept_in 0 kept.now) offers.first.items }
-        requires second { AreOffersOf (kept_in 1 kept.now) offers.second.items }
-        requires third { AreOffersOf (kept_in 2 kept.now) offers.third.items }
-        requires fourth { AreOffersOf (kept_in 3 kept.now) offers.fourth.items }
+        requires first { AreOffersOf (kept_of_pass 0 kept.now) offers.first.items }
+        requires second { AreOffersOf (kept_of_pass 1 kept.now) offers.second.items }
+        requires third { AreOffersOf (kept_of_pass 2 kept.now) offers.third.items }
+        requires fourth { AreOffersOf (kept_of_pass 3 kept.now) offers.fourth.items }
         ensures ok { IfOk result (λ seats. AreSeatsOf number quorums kept.now offers seats.items) }
         ensures settled { OnOk result (AreSettled quorums kept.now) }
         ensures told { IfErr result (λ e. IsUnopened quorums kept.now offers e.pass e.error) }
@@ -140,7 +140,7 @@ fn four_dealers(
 
 /// What each node has kept in the room of a pass, the first pass's being 0, in a row of seven.
 fn parts_in(kept: &[[Kept; 4]], pass: usize) -> [Kept; 7]
-    ensures { result ≡ seven_parts (kept_in pass kept.now) }
+    ensures { result ≡ seven_parts (kept_of_pass pass kept.now) }
 {
     [
         part_of(kept, 0, pass),
@@ -155,7 +155,7 @@ fn parts_in(kept: &[[Kept; 4]], pass: usize) -> [Kept; 7]
 
 /// What the node of that number has kept in the room of a pass, the first pass's being 0.
 fn part_of(kept: &[[Kept; 4]], node: usize, pass: usize) -> Kept
-    ensures { result ≡ nodes_of (kept_in pass kept.now) node }
+    ensures { result ≡ nodes_of (kept_of_pass pass kept.now) node }
 {
     match kept.get(node) {
         Some(parts) => part_at(parts, pass),

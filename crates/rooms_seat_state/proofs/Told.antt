@@ -10,7 +10,7 @@ use Rattle.paxos_core_node_steps.specs.Learner.{learned_with, notes_promise, not
 use Rattle.paxos_core_node_steps.specs.NodeState.{NodeState, nothing_noted}
 use Rattle.paxos_core_node_steps.specs.Notes.{has_promised, highest_below}
 use Rattle.paxos_core_node_steps.specs.Proposer.{floor_of, next_ballot, started, next_proposal, propose_message, proposal_under, choice, after_answer}
-use Rattle.paxos_core_node_steps.specs.Would.{after_act, kept_by}
+use Rattle.paxos_core_node_steps.specs.Would.{after_act, kept_by_step}
 use Rattle.paxos_core_node_steps.specs.Would as core
 use Rattle.paxos_core_node_steps.specs.declared.step.Act.{Act as CoreAct}
 use Rattle.paxos_core_node_steps.specs.declared.step.Act.TheVariants as core_act
@@ -71,7 +71,7 @@ did_acted a s old new e told did way more =
       idle = λ n. absurd (some_is s (would old a) e n);
       kept =
           ap (λ (t : NodeState). t.kept) node
-          ∙ ((told_is_done old.node (act_of s)).kept ∙ ap (λ (o : Option Step). kept_by o old.node.kept) (told ∙ sym e));
+          ∙ ((told_is_done old.node (act_of s)).kept ∙ ap (λ (o : Option Step). kept_by_step o old.node.kept) (told ∙ sym e));
       table = ap (λ (x : SeatState). x.table) did.after;
       me = ap (λ (t : NodeState). t.me) node ∙ me_act old.node (act_of s);
       quorums = ap (λ (t : NodeState). t.quorums) node ∙ quorums_act old.node (act_of s);
@@ -94,7 +94,7 @@ none_acted a old new e same =
     record {
       stepped = subst (λ (o : Option Step). IfSome o (λ s. Did (act_of s) (proposed_by_step s old.proposed) old old)) (sym e) tt;
       idle = λ n. refl;
-      kept = ap (λ (o : Option Step). kept_by o old.node.kept) (sym e);
+      kept = ap (λ (o : Option Step). kept_by_step o old.node.kept) (sym e);
       table = refl;
       me = refl;
       quorums = refl;

@@ -7,7 +7,7 @@ use Rattle.paxos_core_node_steps.specs.declared.step.Act.TheVariants as core_act
 use Rattle.paxos_core_node_steps.specs.declared.step.Step.{Step}
 use Rattle.paxos_core_node_steps.specs.declared.step.Step.TheVariants as step
 use Rattle.paxos_core_node_steps.specs.Proposer.{next_proposal}
-use Rattle.paxos_core_node_steps.specs.Would.{next_start, kept_by}
+use Rattle.paxos_core_node_steps.specs.Would.{next_start, kept_by_step}
 use Rattle.rooms_seat_state.specs.declared.act.Act.{Act}
 use Rattle.rooms_seat_state.specs.declared.act.Act.TheVariants as act
 use Rattle.rooms_seat_state.specs.Did.{Did}
@@ -56,7 +56,7 @@ ProposesNoMore other told s = Unit {0}
 pub record Acted (a : Act) (old new : SeatState) : Type 0 where
   pub stepped : IfSome (would old a) (λ s. Did (act_of s) (proposed_by_step s old.proposed) old new)
   pub idle : would old a ≡ None → new ≡ old
-  pub kept : new.node.kept ≡ kept_by (would old a) old.node.kept
+  pub kept : new.node.kept ≡ kept_by_step (would old a) old.node.kept
   pub table : new.table ≡ old.table
   pub me : new.node.me ≡ old.node.me
   pub quorums : new.node.quorums ≡ old.node.quorums

@@ -10,7 +10,7 @@ use Rattle.text_cminor.proofs.Programs as text_cminor
 use Rattle.text_rtl.proofs.Programs as text_rtl
 use Rattle.text_ltl.proofs.Programs as text_ltl
 use Rattle.text_linear.proofs.Programs as text_linear
-use Rattle.text_files.specs.Files.{IsFileOf, IsCminor, IsRtl, IsLtl, IsLinear, IsProgramTextOf, OfCminor, OfRtl, OfLtl, OfLinear, tag_of, HasNone, HasNoProgramText, IsTextOf, OfProgram, OfOffer, HasNoText}
+use Rattle.text_files.specs.Files.{IsFileOf, IsCminor, IsRtl, IsLtl, IsLinear, IsProgramTextOf, OfCminor, OfRtl, OfLtl, OfLinear, tag_of, HasNone, HasNoProgramText, IsShownText, OfProgram, OfOffer, HasNoText}
 use Rattle.text_offers.specs.Files.{IsOfferTextOf, OfConstants, OfExpressions, OfAllocation, OfLayout, HasNoOfferText, first_of}
 use Rattle.text_offers.proofs.Files.{one_offer, none_begins}
 
@@ -116,13 +116,13 @@ offer_title bytes text (OfExpressions p is e) = ap first e
 offer_title bytes text (OfAllocation p is e) = ap first e
 offer_title bytes text (OfLayout p is e) = ap first e
 
-pub one_file : (a b text : List ℕ) → IsTextOf a text → IsTextOf b text → a ≡ b
+pub one_file : (a b text : List ℕ) → IsShownText a text → IsShownText b text → a ≡ b
 one_file a b text (OfProgram p) (OfProgram q) = one_program_file a b text p q
 one_file a b text (OfOffer p) (OfOffer q) = one_offer a b text p q
 one_file a b text (OfProgram p) (OfOffer q) = absurd (program_title a text p (offer_title b text q))
 one_file a b text (OfOffer p) (OfProgram q) = absurd (program_title b text q (offer_title a text p))
 
-neither : (bytes : List ℕ) → ((text : List ℕ) → IsProgramTextOf bytes text → ⊥) → ((text : List ℕ) → IsOfferTextOf bytes text → ⊥) → (text : List ℕ) → IsTextOf bytes text → ⊥
+neither : (bytes : List ℕ) → ((text : List ℕ) → IsProgramTextOf bytes text → ⊥) → ((text : List ℕ) → IsOfferTextOf bytes text → ⊥) → (text : List ℕ) → IsShownText bytes text → ⊥
 neither bytes p o text (OfProgram is) = p text is
 neither bytes p o text (OfOffer is) = o text is
 
@@ -136,11 +136,11 @@ shown_by : {T : Type 0} (P Q : T → Type 0) → ((text : T) → P text → Q te
 shown_by P Q to (Ok x) h = to x h
 shown_by P Q to (Err fault) h = tt
 
-pub program_shown : (r : Result (Vec ℕ) FormError) (bytes : List ℕ) → IfOk r (λ text. IsProgramTextOf bytes text.items) → IfOk r (λ text. IsTextOf bytes text.items)
-program_shown r bytes h = shown_by (λ text. IsProgramTextOf bytes text.items) (λ text. IsTextOf bytes text.items) (λ text is. OfProgram is) r h
+pub program_shown : (r : Result (Vec ℕ) FormError) (bytes : List ℕ) → IfOk r (λ text. IsProgramTextOf bytes text.items) → IfOk r (λ text. IsShownText bytes text.items)
+program_shown r bytes h = shown_by (λ text. IsProgramTextOf bytes text.items) (λ text. IsShownText bytes text.items) (λ text is. OfProgram is) r h
 
-pub offer_shown : (r : Result (Vec ℕ) FormError) (bytes : List ℕ) → IfOk r (λ text. IsOfferTextOf bytes text.items) → IfOk r (λ text. IsTextOf bytes text.items)
-offer_shown r bytes h = shown_by (λ text. IsOfferTextOf bytes text.items) (λ text. IsTextOf bytes text.items) (λ text is. OfOffer is) r h
+pub offer_shown : (r : Result (Vec ℕ) FormError) (bytes : List ℕ) → IfOk r (λ text. IsOfferTextOf bytes text.items) → IfOk r (λ text. IsShownText bytes text.items)
+offer_shown r bytes h = shown_by (λ text. IsOfferTextOf bytes text.items) (λ text. IsShownText bytes text.items) (λ text is. OfOffer is) r h
 
 -- ---- a file has nothing behind its program
 

@@ -52,13 +52,13 @@ abbrev pub HasNoProgramText : List ℕ → FormError → Type 0
 HasNoProgramText bytes fault = fault ≢ NoMemory → (text : List ℕ) → IsProgramTextOf bytes text → ⊥
 
 -- the text of a file: of a program, or of a written offer
-pub data IsTextOf (bytes text : List ℕ) : Type 0 where
-  OfProgram : IsProgramTextOf bytes text → IsTextOf bytes text
-  OfOffer : IsOfferTextOf bytes text → IsTextOf bytes text
+pub data IsShownText (bytes text : List ℕ) : Type 0 where
+  OfProgram : IsProgramTextOf bytes text → IsShownText bytes text
+  OfOffer : IsOfferTextOf bytes text → IsShownText bytes text
 
 -- unless memory was refused, the file has no text
 abbrev pub HasNoText : List ℕ → FormError → Type 0
-HasNoText bytes fault = fault ≢ NoMemory → (text : List ℕ) → IsTextOf bytes text → ⊥
+HasNoText bytes fault = fault ≢ NoMemory → (text : List ℕ) → IsShownText bytes text → ⊥
 
 -- the byte that tells the language, 0 where there is none
 abbrev pub tag_of : List ℕ → ℕ
@@ -70,9 +70,9 @@ HasNone {F} Is bytes fault = fault ≢ NoMemory → (p : Program F) → Is bytes
 
 -- what was printed: the text of the file
 abbrev pub HasShown : List ℕ → Option (List ℕ) → Option (List ℕ) → Type 0
-HasShown bytes before after = (text : List ℕ) × IsTextOf bytes text × Appends before after text
+HasShown bytes before after = (text : List ℕ) × IsShownText bytes text × Appends before after text
 
 -- where nothing is shown: a file without a text prints nothing; where the writer fails, a beginning of the text was printed
 abbrev pub HasNotShown : List ℕ → ShowError → Option (List ℕ) → Option (List ℕ) → Type 0
 HasNotShown bytes (Form fault) before after = HasNoText bytes fault × Keeps before after
-HasNotShown bytes (Run fault) before after = (text : List ℕ) × IsTextOf bytes text × IsBegun text before after
+HasNotShown bytes (Run fault) before after = (text : List ℕ) × IsShownText bytes text × IsBegun text before after

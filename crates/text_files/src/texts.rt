@@ -1,7 +1,7 @@
 //! The text of a file, by its first byte and its language.
 
 ghost use Rattle.std.specs.Prelude.{IfOk, IfErr};
-ghost use Rattle.text_files.specs.Files.{IsCminor, IsRtl, IsLtl, IsLinear, IsProgramTextOf, HasNoProgramText, HasNone, IsTextOf, HasNoText};
+ghost use Rattle.text_files.specs.Files.{IsCminor, IsRtl, IsLtl, IsLinear, IsProgramTextOf, HasNoProgramText, HasNone, IsShownText, HasNoText};
 
 use crate::reading::{first_of, read_whole, tag_of};
 use cminor_language::Cminor;
@@ -73,7 +73,7 @@ fn text_of_program(alloc: Global, bytes: &[u8]) -> Result<Vec<u8>, FormError>
 /// The text of a file: programs begin with another byte than offers.
 #[tactic(auto, using(crate::proofs::Files::program_refused, crate::proofs::Files::offer_refused, crate::proofs::Files::program_shown, crate::proofs::Files::offer_shown))]
 pub(crate) fn text_of(alloc: Global, bytes: &[u8]) -> Result<Vec<u8>, FormError>
-    ensures ok { IfOk result (λ text. IsTextOf bytes.now text.items) }
+    ensures ok { IfOk result (λ text. IsShownText bytes.now text.items) }
     ensures refused { IfErr result (λ fault. HasNoText bytes.now fault) }
 {
     if first_of(bytes) == b'C' {

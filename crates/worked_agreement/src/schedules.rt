@@ -108,9 +108,9 @@ impl Room {
         Some(())
     }
 
-    fn turn(&mut self, alloc: Global, words: &mut Pcg32) -> Option<()> {
-        let place = place_below(words, self.nodes.len());
-        match random_turn(words, &self.world.sent) {
+    fn turn(&mut self, alloc: Global, draws: &mut Pcg32) -> Option<()> {
+        let place = place_below(draws, self.nodes.len());
+        match random_turn(draws, &self.world.sent) {
             Turn::Call(call) => self.call(place, call),
             Turn::Restart => self.restart(place),
             Turn::Reopen => self.reopen(alloc),
@@ -157,29 +157,29 @@ fn step_asked(me: u8, call: Call) -> Option<Label> {
 }
 
 /// Mostly a recent message is handed over, at times an old one.
-fn random_turn(words: &mut Pcg32, sent: &[Msg]) -> Turn {
-    match words.next_word() % 512 {
+fn random_turn(draws: &mut Pcg32, sent: &[Msg]) -> Turn {
+    match draws.next_word() % 512 {
         0 => Turn::Restart,
-        1 if words.next_word() % 4 == 0 => Turn::Reopen,
+        1 if draws.next_word() % 4 == 0 => Turn::Reopen,
         2..=9 => Turn::Call(Call::Offer),
         10..=13 => Turn::Call(Call::Start),
         14..=63 => Turn::Call(Call::Propose),
-        64..=127 => hand_one_of(words, sent, sent.len()),
-        _ => hand_one_of(words, sent, sent.len().min(12)),
+        64..=127 => hand_one_of(draws, sent, sent.len()),
+        _ => hand_one_of(draws, sent, sent.len().min(12)),
     }
 }
 
 /// Hands over one of the newest messages.
-fn hand_one_of(words: &mut Pcg32, sent: &[Msg], newest: usize) -> Turn {
-    match sent.get(place_below(words, newest)) {
+fn hand_one_of(draws: &mut Pcg32, sent: &[Msg], newest: usize) -> Turn {
+    match sent.get(place_below(draws, newest)) {
         Some(message) => Turn::Call(Call::On(*message)),
         None => Turn::Call(Call::Start),
     }
 }
 
 /// A place below the count, 0 where there is none.
-fn place_below(words: &mut Pcg32, count: usize) -> usize {
-    words.next_word() as usize % count.max(1)
+fn place_below(draws: &mut Pcg32, count: usize) -> usize {
+    draws.next_word() as usize % count.max(1)
 }
 
 /// Plays one schedule of so many turns, if the nodes and the reference agree in all. Whether a value was learned.

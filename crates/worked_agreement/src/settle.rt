@@ -120,13 +120,13 @@ pub fn near<R: Threads + Wait>(threads: &R, alloc: Global, input: &str) -> Optio
 }
 
 /// Up to 63 random bytes; every other time they begin as an LTL function does.
-fn noise_of(alloc: Global, words: &mut Pcg32, turn: u16) -> Option<Vec<u8>> {
+fn noise_of(alloc: Global, draws: &mut Pcg32, turn: u16) -> Option<Vec<u8>> {
     let mut bytes: Vec<u8> = Vec::new(alloc);
     if turn % 2 == 0 {
         bytes.extend_from_slice(&[3, 0, 0, 0, 0, 0]).ok()?;
     }
-    for _ in 0..words.next_word() % 64 {
-        bytes.push((words.next_word() % 256) as u8).ok()?;
+    for _ in 0..draws.next_word() % 64 {
+        bytes.push((draws.next_word() % 256) as u8).ok()?;
     }
     Some(bytes)
 }

@@ -46,7 +46,7 @@ impl Oracles for Fixed {
         &mut self,
         _alloc: Global,
         _input: &rtl_language::Function,
-        _words: &mut Pcg32,
+        _draws: &mut Pcg32,
     ) -> Result<Option<(rtl_language::Function, FactLists)>, NoMemory> {
         Ok(None)
     }
@@ -55,7 +55,7 @@ impl Oracles for Fixed {
         &mut self,
         _alloc: Global,
         _input: &rtl_language::Function,
-        _words: &mut Pcg32,
+        _draws: &mut Pcg32,
     ) -> Result<Option<(rtl_language::Function, EquationLists)>, NoMemory> {
         Ok(None)
     }
@@ -64,7 +64,7 @@ impl Oracles for Fixed {
         &mut self,
         _alloc: Global,
         _input: &rtl_language::Function,
-        _words: &mut Pcg32,
+        _draws: &mut Pcg32,
     ) -> Result<Option<(ltl::Function, PlaceLists)>, NoMemory> {
         Ok(None)
     }
@@ -73,7 +73,7 @@ impl Oracles for Fixed {
         &mut self,
         alloc: Global,
         input: &ltl::Function,
-        _words: &mut Pcg32,
+        _draws: &mut Pcg32,
     ) -> Result<Option<(linear_language::Function, Order)>, NoMemory> {
         let nodes = falling(alloc, input)?;
         arrange(alloc, input, nodes)

@@ -34,15 +34,15 @@ pub fn drawing_of<'a>(words: &'a [&'a str]) -> Option<Drawing<'a>> {
 }
 
 /// A number below a bound; 0 where that is 0.
-fn small(words: &mut Pcg32, below: u32) -> u32 {
-    words.next_word() % below.max(1)
+fn small(draws: &mut Pcg32, below: u32) -> u32 {
+    draws.next_word() % below.max(1)
 }
 
 /// A node of this form.
 fn push_node(
     drawing: Drawing<'_>,
     form: &str,
-    words: &mut Pcg32,
+    draws: &mut Pcg32,
     text: &mut String,
 ) -> Result<(), AllocError> {
     for letter in form.chars() {
@@ -56,7 +56,7 @@ fn push_node(
                 continue;
             }
         };
-        let chosen = small(words, below);
+        let chosen = small(draws, below);
         write!(text, "{chosen:04x}")?;
     }
     Ok(())

@@ -35,15 +35,15 @@ fn turn_of(drawn: u32) -> Turn {
 }
 
 /// A number below the count, 0 where there is none.
-fn number_below(words: &mut Pcg32, count: u8) -> u8 {
-    u8::try_from(words.next_word() % u32::from(count.max(1))).unwrap_or(0)
+fn number_below(draws: &mut Pcg32, count: u8) -> u8 {
+    u8::try_from(draws.next_word() % u32::from(count.max(1))).unwrap_or(0)
 }
 
 /// Whether seats and reference agree in what a seat that is drawn does next.
-fn agree(seats: &mut [WordSeat], world: &mut World, words: &mut Pcg32, count: u8) -> bool {
-    let place = usize::from(number_below(words, count.saturating_sub(1)));
-    let j = number_below(words, count);
-    let drawn = words.next_word() % 64;
+fn agree(seats: &mut [WordSeat], world: &mut World, draws: &mut Pcg32, count: u8) -> bool {
+    let place = usize::from(number_below(draws, count.saturating_sub(1)));
+    let j = number_below(draws, count);
+    let drawn = draws.next_word() % 64;
     if drawn <= 36 {
         return is_as_in(seats, world, place, turn_of(drawn), j);
     }
@@ -56,10 +56,10 @@ fn agree(seats: &mut [WordSeat], world: &mut World, words: &mut Pcg32, count: u8
 }
 
 /// Whether they agree in so many parts of one schedule.
-fn all_agree(seats: &mut [WordSeat], world: &mut World, words: &mut Pcg32, parts: u16) -> bool {
+fn all_agree(seats: &mut [WordSeat], world: &mut World, draws: &mut Pcg32, parts: u16) -> bool {
     let count = u8::try_from(seats.len()).unwrap_or(0);
     for _ in 0..parts {
-        if !agree(seats, world, words, count) {
+        if !agree(seats, world, draws, count) {
             return false;
         }
     }

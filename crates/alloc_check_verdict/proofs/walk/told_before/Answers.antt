@@ -5,15 +5,15 @@ use Rattle.ltl.specs.declared.block.Block.{Block}
 use Rattle.alloc_check_rules.specs.declared.equation.Equation.{Equation}
 use Rattle.alloc_check_rules.specs.Pairs.{change_of}
 use Rattle.alloc_check_proof.specs.Fill.{needed}
-use Rattle.alloc_check_proof.specs.Needed.{Keeps, IsNeeded}
+use Rattle.alloc_check_proof.specs.Needed.{KeepsEquations, IsNeeded}
 use Rattle.alloc_check_proof.proofs.Blocks.{broken_none}
 use Rattle.alloc_check_verdict.proofs.walk.told_before.Goals as goal
 
-kept : (i : Instruction) (b : Block) (es found : List Equation) (keeps : Bool) → keeps ≡ true → IsNeeded i b es found keeps → Keeps i b es × (found ≡ needed i b es)
+kept : (i : Instruction) (b : Block) (es found : List Equation) (keeps : Bool) → keeps ≡ true → IsNeeded i b es found keeps → KeepsEquations i b es × (found ≡ needed i b es)
 kept i b es found true is told = told
 kept i b es found false is told = absurd (let impossible : false ≡ true = is in cc)
 
-broken : (i : Instruction) (b : Block) (es found : List Equation) (keeps : Bool) → keeps ≡ false → IsNeeded i b es found keeps → ¬ Keeps i b es
+broken : (i : Instruction) (b : Block) (es found : List Equation) (keeps : Bool) → keeps ≡ false → IsNeeded i b es found keeps → ¬ KeepsEquations i b es
 broken i b es found true is told = absurd (let impossible : true ≡ false = is in cc)
 broken i b es found false is told = told
 

@@ -27,21 +27,21 @@ returns-in-Err-run_rounds-clause-refused g c =
 
 pub met_all-requires : goal.met_all-requires
 met_all-requires g c = record {
-  few = share_such g.D.Disk (λ n. n.program) (λ n. n.log) (λ n. n.seats.items) (λ n. n.words) (λ n. n.halted) arc_value
+  few = share_such g.D.Disk (λ n. n.program) (λ n. n.log) (λ n. n.seats.items) (λ n. n.draws) (λ n. n.halted) arc_value
       (arc_value c.in-Ok.farm.source.translated) HasFewFunctions
       (subst (λ (s : Source). length (arc_value s.translated).functions ≤ 64) (sym c.in-Ok.ensures.source) c.requires.count)
-      c.in-Ok-run_rounds.nodes.items (share g.D.Disk (λ n. n.program) (λ n. n.log) (λ n. n.seats.items) (λ n. n.words) (λ n. n.halted) arc_value
+      c.in-Ok-run_rounds.nodes.items (share g.D.Disk (λ n. n.program) (λ n. n.log) (λ n. n.seats.items) (λ n. n.draws) (λ n. n.halted) arc_value
       (arc_value c.in-Ok.farm.source.translated) c.in-Ok.farm.nodes.items c.in-Ok-run_rounds.nodes.items c.in-Ok-run_rounds.ensures.came
       c.in-Ok.ensures.program);
 }
 
 pub returns-in-Err-met_all-clause-refused : goal.returns-in-Err-met_all-clause-refused
 returns-in-Err-met_all-clause-refused g c =
-    let ran_there = ran g.D.Disk (λ n. n.program) (λ n. n.log) (λ n. n.seats.items) (λ n. n.words) (λ n. n.halted) g.D.Pair _ c.args.quorums c.args.seed c.args.source
+    let ran_there = ran g.D.Disk (λ n. n.program) (λ n. n.log) (λ n. n.seats.items) (λ n. n.draws) (λ n. n.halted) g.D.Pair _ c.args.quorums c.args.seed c.args.source
     c.in-Ok.farm.source c.args.disks.items c.in-Ok.farm.nodes.items c.in-Ok-run_rounds.nodes.items c.in-Ok.ensures.source
-    c.in-Ok.ensures.journals c.in-Ok.ensures.rooms c.in-Ok.ensures.words c.in-Ok.ensures.going c.in-Ok-run_rounds.ensures.came
+    c.in-Ok.ensures.journals c.in-Ok.ensures.rooms c.in-Ok.ensures.draws c.in-Ok.ensures.going c.in-Ok-run_rounds.ensures.came
     c.in-Ok-run_rounds.ensures.fit in
-    unmet g.D.Disk (λ n. n.program) (λ n. n.log) (λ n. n.seats.items) (λ n. n.words) (λ n. n.halted) g.D.Pair c.args.quorums c.args.seed c.args.source
+    unmet g.D.Disk (λ n. n.program) (λ n. n.log) (λ n. n.seats.items) (λ n. n.draws) (λ n. n.halted) g.D.Pair c.args.quorums c.args.seed c.args.source
     c.args.disks.items c.in-Ok-run_rounds.nodes.items _ c.in-Ok-run_rounds.ensures.fit ran_there c.in-Err-met_all.fault c.in-Err-met_all.ensures.refused
 
 pub built_by-requires-clause-counted : goal.built_by-requires-clause-counted
@@ -68,34 +68,34 @@ built_by-requires-clause-some g c =
 pub built_by-requires-clause-program : goal.built_by-requires-clause-program
 built_by-requires-clause-program g c =
     subst (λ l. AllByRecursion (λ n. arc_value n.program ≡ arc_value c.in-Ok.farm.source.translated) l) (sym c.deref.ensures.value)
-    (share_met g.D.Disk (λ n. n.program) (λ n. n.log) (λ n. n.seats.items) (λ n. n.words) (λ n. n.halted) arc_value
+    (share_met g.D.Disk (λ n. n.program) (λ n. n.log) (λ n. n.seats.items) (λ n. n.draws) (λ n. n.halted) arc_value
     (arc_value c.in-Ok.farm.source.translated) c.in-Ok-run_rounds.nodes.items c.in-Ok-met_all.nodes.items c.in-Ok-met_all.ensures.stay
-    (share g.D.Disk (λ n. n.program) (λ n. n.log) (λ n. n.seats.items) (λ n. n.words) (λ n. n.halted) arc_value
+    (share g.D.Disk (λ n. n.program) (λ n. n.log) (λ n. n.seats.items) (λ n. n.draws) (λ n. n.halted) arc_value
     (arc_value c.in-Ok.farm.source.translated) c.in-Ok.farm.nodes.items c.in-Ok-run_rounds.nodes.items c.in-Ok-run_rounds.ensures.came
     c.in-Ok.ensures.program))
 
 pub returns-clause-built : goal.returns-clause-built
 returns-clause-built g c =
-    let ran_there = ran g.D.Disk (λ n. n.program) (λ n. n.log) (λ n. n.seats.items) (λ n. n.words) (λ n. n.halted) g.D.Pair _ c.args.quorums c.args.seed c.args.source
+    let ran_there = ran g.D.Disk (λ n. n.program) (λ n. n.log) (λ n. n.seats.items) (λ n. n.draws) (λ n. n.halted) g.D.Pair _ c.args.quorums c.args.seed c.args.source
     c.in-Ok.farm.source c.args.disks.items c.in-Ok.farm.nodes.items c.in-Ok-run_rounds.nodes.items c.in-Ok.ensures.source
-    c.in-Ok.ensures.journals c.in-Ok.ensures.rooms c.in-Ok.ensures.words c.in-Ok.ensures.going c.in-Ok-run_rounds.ensures.came
+    c.in-Ok.ensures.journals c.in-Ok.ensures.rooms c.in-Ok.ensures.draws c.in-Ok.ensures.going c.in-Ok-run_rounds.ensures.came
     c.in-Ok-run_rounds.ensures.fit in
     let met = subst (λ l. AllZip (Meets g.D.Disk (λ n. n.program) (λ n. n.log) (λ n. fours_of n.seats.items) (λ n. n.halted) (λ n. learned_by n.seats.items)) c.in-Ok-run_rounds.nodes.items l)
     (sym c.deref.ensures.value) c.in-Ok-met_all.ensures.stay in
     built_so g.D.Disk g.D.Pair g.H.Naming c.args.quorums c.args.seed c.args.source c.in-Ok.farm.source c.args.disks.items c.in-Ok.ensures.source _ _ ran_there
-    (failed_same g.D.Disk (λ n. n.program) (λ n. n.log) (λ n. n.seats.items) (λ n. n.words) (λ n. n.halted) c.in-Ok-run_rounds.nodes.items ∙ c.in-Ok-met_all.ensures.going)
-    (have_met_fit g.D.Disk (λ n. n.program) (λ n. n.log) (λ n. n.seats.items) (λ n. n.words) (λ n. n.halted) _
+    (failed_same g.D.Disk (λ n. n.program) (λ n. n.log) (λ n. n.seats.items) (λ n. n.draws) (λ n. n.halted) c.in-Ok-run_rounds.nodes.items ∙ c.in-Ok-met_all.ensures.going)
+    (have_met_fit g.D.Disk (λ n. n.program) (λ n. n.log) (λ n. n.seats.items) (λ n. n.draws) (λ n. n.halted) _
     c.in-Ok-run_rounds.nodes.items c.deref.result.now c.in-Ok-run_rounds.ensures.fit met) c.built_by.result c.built_by.ensures.built
 
 pub returns-clause-refused : goal.returns-clause-refused
 returns-clause-refused g c =
-    let ran_there = ran g.D.Disk (λ n. n.program) (λ n. n.log) (λ n. n.seats.items) (λ n. n.words) (λ n. n.halted) g.D.Pair _ c.args.quorums c.args.seed c.args.source
+    let ran_there = ran g.D.Disk (λ n. n.program) (λ n. n.log) (λ n. n.seats.items) (λ n. n.draws) (λ n. n.halted) g.D.Pair _ c.args.quorums c.args.seed c.args.source
     c.in-Ok.farm.source c.args.disks.items c.in-Ok.farm.nodes.items c.in-Ok-run_rounds.nodes.items c.in-Ok.ensures.source
-    c.in-Ok.ensures.journals c.in-Ok.ensures.rooms c.in-Ok.ensures.words c.in-Ok.ensures.going c.in-Ok-run_rounds.ensures.came
+    c.in-Ok.ensures.journals c.in-Ok.ensures.rooms c.in-Ok.ensures.draws c.in-Ok.ensures.going c.in-Ok-run_rounds.ensures.came
     c.in-Ok-run_rounds.ensures.fit in
     let met = subst (λ l. AllZip (Meets g.D.Disk (λ n. n.program) (λ n. n.log) (λ n. fours_of n.seats.items) (λ n. n.halted) (λ n. learned_by n.seats.items)) c.in-Ok-run_rounds.nodes.items l)
     (sym c.deref.ensures.value) c.in-Ok-met_all.ensures.stay in
     refused_so g.D.Disk g.D.Pair g.H.Naming c.args.quorums c.args.seed c.args.source c.in-Ok.farm.source c.args.disks.items c.in-Ok.ensures.source _ _ ran_there
-    (failed_same g.D.Disk (λ n. n.program) (λ n. n.log) (λ n. n.seats.items) (λ n. n.words) (λ n. n.halted) c.in-Ok-run_rounds.nodes.items ∙ c.in-Ok-met_all.ensures.going)
-    (have_met_fit g.D.Disk (λ n. n.program) (λ n. n.log) (λ n. n.seats.items) (λ n. n.words) (λ n. n.halted) _
+    (failed_same g.D.Disk (λ n. n.program) (λ n. n.log) (λ n. n.seats.items) (λ n. n.draws) (λ n. n.halted) c.in-Ok-run_rounds.nodes.items ∙ c.in-Ok-met_all.ensures.going)
+    (have_met_fit g.D.Disk (λ n. n.program) (λ n. n.log) (λ n. n.seats.items) (λ n. n.draws) (λ n. n.halted) _
     c.in-Ok-run_rounds.nodes.items c.deref.result.now c.in-Ok-run_rounds.ensures.fit met) c.built_by.result c.built_by.ensures.refused

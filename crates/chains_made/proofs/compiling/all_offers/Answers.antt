@@ -28,7 +28,7 @@ loop-number-preserved c =
       counted,
       λ none.
           let before = done.invariant.3 none in
-          let still = ap (λ m. m.words) before.0 ∙ none in
+          let still = ap (λ m. m.draws) before.0 ∙ none in
           (c.in_ok-offers_of.ensures.stays still ∙ before.0, All-push AreBaselines done.offers.items made before.1 (c.in_ok-offers_of.ensures.alone still)),
     ))
 

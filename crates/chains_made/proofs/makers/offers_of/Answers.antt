@@ -47,9 +47,9 @@ returns-clause-alone c = λ none.
       allocation = λ other. subst (λ (o : OfAllocation). allocation.IsBaseline o.input o.output o.certificate) (sym e3) (third.ensures.baseline other);
       order = λ other. fourth.ensures.baseline other;
     } in
-    let one = ap (λ m. m.words) (first.ensures.stays none) ∙ none in
-    let two = ap (λ m. m.words) (second.ensures.stays one) ∙ one in
-    let three = ap (λ m. m.words) (third.ensures.stays two) ∙ two in
+    let one = ap (λ m. m.draws) (first.ensures.stays none) ∙ none in
+    let two = ap (λ m. m.draws) (second.ensures.stays one) ∙ one in
+    let three = ap (λ m. m.draws) (third.ensures.stays two) ∙ two in
     record {
       constants = are.constants (first.ensures.alone none);
       expressions = are.expressions (second.ensures.alone one);

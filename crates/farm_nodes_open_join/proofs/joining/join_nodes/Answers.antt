@@ -46,8 +46,8 @@ returns-clause-program g c =
     let shares = made_same c.pieces_of-pieces.result.items c.made_of.result.items (λ n. n.program) c.pieces_of-pieces.ensures.programs c.made_of.ensures (λ a b p. search rules) in
     of_parts (λ n. n.program) (λ p. arc_value p ≡ arc_value c.args.program.now) c.made_of.result.items c.in-Ok-shares.shares.items shares c.in-Ok-shares.ensures.same
 
-pub returns-clause-words : goal.returns-clause-words
-returns-clause-words g c = made_same c.pieces_of-pieces.result.items c.made_of.result.items (λ n. n.words) c.pieces_of-pieces.ensures.words c.made_of.ensures (λ a b p. search rules)
+pub returns-clause-draws : goal.returns-clause-draws
+returns-clause-draws g c = made_same c.pieces_of-pieces.result.items c.made_of.result.items (λ n. n.draws) c.pieces_of-pieces.ensures.draws c.made_of.ensures (λ a b p. search rules)
 
 pub returns-clause-going : goal.returns-clause-going
 returns-clause-going g c = made_so c.pieces_of-pieces.result.items c.made_of.result.items (λ n. n.halted ≡ None) c.made_of.ensures (λ a b p. search rules)

@@ -1,7 +1,7 @@
 -- The next of each go side by side.
 use Rattle.std.proofs.Common.{◌≡◌, ◌+◌, length, sym, ap, ◌∙◌, arith}
 use Rattle.std.specs.Vec.Iter.{into_iter_items}
-use Rattle.farm_nodes_open_join.proofs.Moving.{begun, moved, no_words, one_more, one_word}
+use Rattle.farm_nodes_open_join.proofs.Moving.{begun, moved, no_draws, one_more, one_draw}
 use Rattle.farm_nodes_open_join.specs.Words.{generator_of}
 use Rattle.farm_nodes_open_join.proofs.pieces.pieces_of.Goals as goal
 
@@ -18,7 +18,7 @@ loop-journal-init g c =
       seats = begun (λ p. p.seats) spare (into_iter_items c.into_iter-seats_left.result) c.args.seats.items none ss;
       programs = begun (λ p. p.program) spare (into_iter_items c.into_iter-programs_left.result) c.args.programs.items none ps;
       oracles = begun (λ p. p.oracles) spare (into_iter_items c.into_iter-oracles_left.result) c.args.oracles.items none os;
-      words = no_words (λ p. p.words) c.args.seed spare none;
+      draws = no_draws (λ p. p.draws) c.args.seed spare none;
       counted = omega (arith, gives.1, ap length gives.0, c.args.journals.ok.0);
       seats_left = ap length ss ∙ c.requires.seats ∙ sym (ap length gives.0);
       programs_left = ap length ps ∙ c.requires.programs ∙ sym (ap length gives.0);
@@ -41,7 +41,7 @@ loop-journal-preserved g c =
       seats = moved (λ p. p.seats) done i.seats put.items s;
       programs = moved (λ p. p.program) done i.programs put.items p;
       oracles = moved (λ p. p.oracles) done i.oracles put.items o;
-      words = one_word (λ p. p.words) c.args.seed done i.words put.items (c.new.ensures ∙ ap (generator_of c.args.seed) (c.len.ensures ∙ c.loop-journal.all.ok.0));
+      draws = one_draw (λ p. p.draws) c.args.seed done i.draws put.items (c.new.ensures ∙ ap (generator_of c.args.seed) (c.len.ensures ∙ c.loop-journal.all.ok.0));
       counted = omega (arith, steps.1, ap length steps.0, i.counted);
       seats_left = omega (arith, ap length s, ap length steps.0, i.seats_left);
       programs_left = omega (arith, ap length p, ap length steps.0, i.programs_left);

@@ -10,7 +10,7 @@ invariant-loop-journal g l = record {
   seats : map (λ p. p.seats) l.all.items ++ into_iter_items l.seats_left ≡ l.fn.seats.items;
   programs : map (λ p. p.program) l.all.items ++ into_iter_items l.programs_left ≡ l.fn.programs.items;
   oracles : map (λ p. p.oracles) l.all.items ++ into_iter_items l.oracles_left ≡ l.fn.oracles.items;
-  words : map (λ p. p.words) l.all.items ≡ generators l.seed (length l.all.items);
+  draws : map (λ p. p.draws) l.all.items ≡ generators l.seed (length l.all.items);
   counted : into_iter_len l.journal-iterator ≡ length (into_iter_items l.journal-iterator);
   seats_left : length (into_iter_items l.seats_left) ≡ length (into_iter_items l.journal-iterator);
   programs_left : length (into_iter_items l.programs_left) ≡ length (into_iter_items l.journal-iterator);

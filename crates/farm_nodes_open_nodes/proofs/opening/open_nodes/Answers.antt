@@ -102,9 +102,9 @@ pub returns-in-Ok-join_nodes-clause-journals : goal.returns-in-Ok-join_nodes-cla
 returns-in-Ok-join_nodes-clause-journals g c =
     journals_on g.P.Disk g.P.Pair c.args.quorums c.args.digest.now c.args.pairs.items c.in-Ok-open_journals.journals.items (map (λ n. n.log) c.in-Ok-join_nodes.nodes.items) c.in-Ok-open_journals.ensures.opened c.in-Ok-join_nodes.ensures.logs
 
-pub returns-in-Ok-join_nodes-clause-words : goal.returns-in-Ok-join_nodes-clause-words
-returns-in-Ok-join_nodes-clause-words g c =
-    c.in-Ok-join_nodes.ensures.words ∙ ap (generators c.args.seed) c.in-Ok-open_journals.ensures.opened.size
+pub returns-in-Ok-join_nodes-clause-draws : goal.returns-in-Ok-join_nodes-clause-draws
+returns-in-Ok-join_nodes-clause-draws g c =
+    c.in-Ok-join_nodes.ensures.draws ∙ ap (generators c.args.seed) c.in-Ok-open_journals.ensures.opened.size
 
 pub returns-in-Ok-join_nodes-clause-rooms : goal.returns-in-Ok-join_nodes-clause-rooms
 returns-in-Ok-join_nodes-clause-rooms g c =

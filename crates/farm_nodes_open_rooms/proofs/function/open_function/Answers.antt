@@ -3,7 +3,7 @@ use Rattle.std.proofs.Common.{ℕ, List, length, refl, ap, subst, ◌∙◌}
 use Rattle.std.specs.Global.{Vec}
 use Rattle.std.proofs.lemmas.List.{length-map}
 use Rattle.paxos_core_world.specs.KeptPart.{KeptPart}
-use Rattle.farm_nodes_turn_passes.specs.Opened.{kept_in}
+use Rattle.farm_nodes_turn_passes.specs.Opened.{kept_of_pass}
 use Rattle.farm_nodes_turn_passes.specs.Opened as by_pass
 use Rattle.farm_nodes_turn_passes.specs.Numbers.{room_at}
 use Rattle.farm_nodes_turn_passes.specs.declared.which.Which.TheVariants.{Constants, Expressions, Allocation, Order}
@@ -25,10 +25,10 @@ open-requires g c =
     let is = c.as_slice.ensures.value ∙ c.in-Ok.ensures in
     record {
       size = ap length is ∙ length-map nodes (λ (node : Vec KeptPart). four_kept node.items f) ∙ c.requires.size;
-      first = offers_as_given (kept_of nodes (room_at f Constants)) _ (offers_of (rows_of offers.constants.items) f) here.first.items (ap (λ (ps : List (List KeptPart)). kept_in 0 ps) is ∙ kept_first nodes f) are.constants c.requires.offers1;
-      second = offers_as_given (kept_of nodes (room_at f Expressions)) _ (offers_of (rows_of offers.expressions.items) f) here.second.items (ap (λ (ps : List (List KeptPart)). kept_in 1 ps) is ∙ kept_second nodes f) are.expressions c.requires.offers2;
-      third = offers_as_given (kept_of nodes (room_at f Allocation)) _ (offers_of (rows_of offers.allocation.items) f) here.third.items (ap (λ (ps : List (List KeptPart)). kept_in 2 ps) is ∙ kept_third nodes f) are.allocation c.requires.offers3;
-      fourth = offers_as_given (kept_of nodes (room_at f Order)) _ (offers_of (rows_of offers.order.items) f) here.fourth.items (ap (λ (ps : List (List KeptPart)). kept_in 3 ps) is ∙ kept_fourth nodes f) are.order c.requires.offers4;
+      first = offers_as_given (kept_of nodes (room_at f Constants)) _ (offers_of (rows_of offers.constants.items) f) here.first.items (ap (λ (ps : List (List KeptPart)). kept_of_pass 0 ps) is ∙ kept_first nodes f) are.constants c.requires.offers1;
+      second = offers_as_given (kept_of nodes (room_at f Expressions)) _ (offers_of (rows_of offers.expressions.items) f) here.second.items (ap (λ (ps : List (List KeptPart)). kept_of_pass 1 ps) is ∙ kept_second nodes f) are.expressions c.requires.offers2;
+      third = offers_as_given (kept_of nodes (room_at f Allocation)) _ (offers_of (rows_of offers.allocation.items) f) here.third.items (ap (λ (ps : List (List KeptPart)). kept_of_pass 2 ps) is ∙ kept_third nodes f) are.allocation c.requires.offers3;
+      fourth = offers_as_given (kept_of nodes (room_at f Order)) _ (offers_of (rows_of offers.order.items) f) here.fourth.items (ap (λ (ps : List (List KeptPart)). kept_of_pass 3 ps) is ∙ kept_fourth nodes f) are.order c.requires.offers4;
     }
 
 pub numbered-requires : goal.numbered-requires

@@ -54,10 +54,10 @@ returns-in-Err-clause-asked g c =
     )
 
 pub returns-in-Ok-clause-kept : goal.returns-in-Ok-clause-kept
-returns-in-Ok-clause-kept g c = record { program = refl; oracles = refl; words = refl }
+returns-in-Ok-clause-kept g c = record { program = refl; oracles = refl; draws = refl }
 
 pub returns-in-Err-clause-kept : goal.returns-in-Err-clause-kept
-returns-in-Err-clause-kept g c = record { program = refl; oracles = refl; words = refl }
+returns-in-Err-clause-kept g c = record { program = refl; oracles = refl; draws = refl }
 
 pub returns-in-Ok-clause-back : goal.returns-in-Ok-clause-back
 returns-in-Ok-clause-back g c =

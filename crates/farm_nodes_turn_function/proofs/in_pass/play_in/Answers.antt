@@ -24,7 +24,7 @@ pub returns-in-Constants-clause-after : goal.returns-in-Constants-clause-after
 returns-in-Constants-clause-after g c =
     let old = four_of c.args.seats.now in
     rw c.in-Constants.is
-    (stands_after c.play_first.result Constants (pcg32 c.args.words.now).0 old (record old { constants = c.play_first.new.seat })
+    (stands_after c.play_first.result Constants (pcg32 c.args.draws.now).0 old (record old { constants = c.play_first.new.seat })
     (on_ok c.play_first.result (c.play_first.new.seat.words.node.kept.offered ≡ true)
     (Unit {0} → c.play_first.new.seat.words.node.kept.offered ≡ true)
     (λ offered known. offered) c.play_first.ensures.offered) c.play_first.ensures.quiet c.play_first.ensures.proposed c.play_first.ensures.led)
@@ -54,7 +54,7 @@ pub returns-in-Expressions-clause-after : goal.returns-in-Expressions-clause-aft
 returns-in-Expressions-clause-after g c =
     let old = four_of c.args.seats.now in
     rw c.in-Expressions.is
-    (stands_after c.play_behind.result Expressions (pcg32 c.args.words.now).0 old (record old { expressions = c.play_behind.new.seat })
+    (stands_after c.play_behind.result Expressions (pcg32 c.args.draws.now).0 old (record old { expressions = c.play_behind.new.seat })
     c.play_behind.ensures.offered c.play_behind.ensures.quiet c.play_behind.ensures.proposed c.play_behind.ensures.led)
 
 pub returns-in-Expressions-clause-left : goal.returns-in-Expressions-clause-left
@@ -82,7 +82,7 @@ pub returns-in-Allocation-clause-after : goal.returns-in-Allocation-clause-after
 returns-in-Allocation-clause-after g c =
     let old = four_of c.args.seats.now in
     rw c.in-Allocation.is
-    (stands_after c.play_behind-in-Allocation.result Allocation (pcg32 c.args.words.now).0 old (record old { allocation = c.play_behind-in-Allocation.new.seat })
+    (stands_after c.play_behind-in-Allocation.result Allocation (pcg32 c.args.draws.now).0 old (record old { allocation = c.play_behind-in-Allocation.new.seat })
     c.play_behind-in-Allocation.ensures.offered c.play_behind-in-Allocation.ensures.quiet c.play_behind-in-Allocation.ensures.proposed c.play_behind-in-Allocation.ensures.led)
 
 pub returns-in-Allocation-clause-left : goal.returns-in-Allocation-clause-left
@@ -110,7 +110,7 @@ pub returns-in-Order-clause-after : goal.returns-in-Order-clause-after
 returns-in-Order-clause-after g c =
     let old = four_of c.args.seats.now in
     rw c.in-Order.is
-    (stands_after c.play_behind-in-Order.result Order (pcg32 c.args.words.now).0 old (record old { order = c.play_behind-in-Order.new.seat })
+    (stands_after c.play_behind-in-Order.result Order (pcg32 c.args.draws.now).0 old (record old { order = c.play_behind-in-Order.new.seat })
     c.play_behind-in-Order.ensures.offered c.play_behind-in-Order.ensures.quiet c.play_behind-in-Order.ensures.proposed c.play_behind-in-Order.ensures.led)
 
 pub returns-in-Order-clause-left : goal.returns-in-Order-clause-left
