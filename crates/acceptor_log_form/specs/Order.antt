@@ -22,19 +22,19 @@ Opens n i kept s p x =
 -- offer; an own ballot above the last that it started; a value under the ballot that it started last, once; a ballot
 -- above the one promised; a vote whose ballot is not below the promised one, and not again under the ballot of the last
 -- vote; a summary before all but the offer. Ballots are numbered from 1, and a value is the number of a node.
-abbrev pub MayFollow : ℕ → ℕ → KeptPart → ℕ → Record → Type 0
-MayFollow n i kept proposed (Offered room offer) = kept.offered ≡ false
-MayFollow n i kept proposed (Started room b) = Owns n i b × (kept.started < b)
-MayFollow n i kept proposed (Proposed room b v) = (1 ≤ b) × (b ≡ kept.started) × (proposed ≢ b) × (v < n)
-MayFollow n i kept proposed (Promised room b) = kept.promised < b
-MayFollow n i kept proposed (Accepted room b v) =
+abbrev pub MayComeNext : ℕ → ℕ → KeptPart → ℕ → Record → Type 0
+MayComeNext n i kept proposed (Offered room offer) = kept.offered ≡ false
+MayComeNext n i kept proposed (Started room b) = Owns n i b × (kept.started < b)
+MayComeNext n i kept proposed (Proposed room b v) = (1 ≤ b) × (b ≡ kept.started) × (proposed ≢ b) × (v < n)
+MayComeNext n i kept proposed (Promised room b) = kept.promised < b
+MayComeNext n i kept proposed (Accepted room b v) =
     (1 ≤ b) × (kept.promised ≤ b) × IfSome kept.accepted (λ x. x.ballot ≢ b) × (v < n)
-MayFollow n i kept proposed (Summary room s p x) = Opens n i kept s p x
+MayComeNext n i kept proposed (Summary room s p x) = Opens n i kept s p x
 
 -- a record of one of so many rooms that goes on from what those in front of it leave there
 abbrev pub MayFollow : ℕ → ℕ → ℕ → List Record → Record → Type 0
 MayFollow n i rooms before r =
-    (room_of r < rooms) × MayFollow n i (kept_in before (room_of r)) (proposed_in before (room_of r)) r
+    (room_of r < rooms) × MayComeNext n i (kept_in before (room_of r)) (proposed_in before (room_of r)) r
 
 -- The records of node i of n, in so many rooms, are in order: each may follow those in front of it.
 abbrev pub AreInOrder : ℕ → ℕ → ℕ → List Record → Type 0

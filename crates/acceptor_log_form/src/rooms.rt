@@ -4,7 +4,7 @@ ghost use Rattle.std.specs.Prelude.{◌≡◌, ◌≢◌, ◌<◌, ◌↔◌, �
 ghost use Rattle.paxos_core_world.specs.KeptPart.{nothing_kept, part};
 ghost use Rattle.acceptor_log_form.specs.Fault.{IsMemoryOr};
 ghost use Rattle.acceptor_log_form.specs.Leaves.{kept_by_record, proposed_by, kept_in, vote_told};
-ghost use Rattle.acceptor_log_form.specs.Order.{MayFollow, KeepOrder, Opens, IsVoteWithin};
+ghost use Rattle.acceptor_log_form.specs.Order.{MayComeNext, KeepOrder, Opens, IsVoteWithin};
 
 use crate::errors::LogError;
 use crate::header::Header;
@@ -86,10 +86,10 @@ struct Left {
 /// What is left of a room once a record of it is put down, where that goes on from what was left before.
 fn after(header: &Header, kept: Kept, proposed: u16, entry: &Record) -> Option<Left>
     requires { 0 < header.now.nodes }
-    ensures goes_on { OnSome result (MayFollow header.now.nodes header.now.node kept proposed entry.now) }
+    ensures goes_on { OnSome result (MayComeNext header.now.nodes header.now.node kept proposed entry.now) }
     ensures kept { IfSome result (λ next. next.kept ≡ kept_by_record kept entry.now) }
     ensures proposed { IfSome result (λ next. next.proposed ≡ proposed_by proposed entry.now) }
-    ensures refused { IfNone result (MayFollow header.now.nodes header.now.node kept proposed entry.now → ⊥) }
+    ensures refused { IfNone result (MayComeNext header.now.nodes header.now.node kept proposed entry.now → ⊥) }
 {
     if !goes_on(header, kept, proposed, entry) {
         return None;
@@ -159,7 +159,7 @@ fn told_vote(accepted: (u16, u8)) -> Option<(u32, u32)>
 /// Whether the record goes on from what was left of its room.
 fn goes_on(header: &Header, kept: Kept, proposed: u16, entry: &Record) -> bool
     requires { 0 < header.now.nodes }
-    ensures { IsTrue result ↔ MayFollow header.now.nodes header.now.node kept proposed entry.now }
+    ensures { IsTrue result ↔ MayComeNext header.now.nodes header.now.node kept proposed entry.now }
 {
     match entry {
         Record::Offered(_, _) => !kept.offered(),

@@ -12,7 +12,7 @@ use Rattle.acceptor_log_form.specs.declared.record.Record.{Record}
 use Rattle.acceptor_log_form.specs.declared.record.Record.TheVariants.{Offered, Started, Proposed, Promised, Accepted, Summary}
 use Rattle.acceptor_log_form.specs.Text.{room_of}
 use Rattle.acceptor_log_form.specs.Leaves.{kept_by_record, kept_in, proposed_in, vote_told}
-use Rattle.acceptor_log_form.specs.Order.{MayFollow, AreInOrder, IsVoteWithin}
+use Rattle.acceptor_log_form.specs.Order.{MayComeNext, AreInOrder, IsVoteWithin}
 use Rattle.acceptor_log_form.proofs.LeavesLemmas.{left_from-own, left_from-other}
 use Rattle.acceptor_log_old.specs.Migrated.{told}
 
@@ -37,7 +37,7 @@ summed n p x within = by (x.0 == 0) refl
       | inr has ↦ has
     ]
 
-goes-well : (n i : ℕ) (k : KeptPart) (proposed : ℕ) (r : Record) → IsWell n i k → MayFollow n i k proposed r → IsWell n i (kept_by_record k r)
+goes-well : (n i : ℕ) (k : KeptPart) (proposed : ℕ) (r : Record) → IsWell n i k → MayComeNext n i k proposed r → IsWell n i (kept_by_record k r)
 goes-well n i k proposed (Offered room offer) well goes = well
 goes-well n i k proposed (Started room b) well goes = (inr goes.0, well.1)
 goes-well n i k proposed (Proposed room b v) well goes = well
@@ -56,7 +56,7 @@ module _ (n i rooms : ℕ) (rs : List Record) (order : AreInOrder n i rooms rs) 
       elim (cases_eq (room_of r) room) [
         | inl same ↦ subst (IsWell n i) (sym (left_from-own kept_by_record nothing_kept before (take (k + 1) rs) r room are same))
             (goes-well n i (kept_in before room) (proposed_in before room) r well
-            (subst (λ m. MayFollow n i (kept_in before m) (proposed_in before m) r) same may.1))
+            (subst (λ m. MayComeNext n i (kept_in before m) (proposed_in before m) r) same may.1))
         | inr other ↦ subst (IsWell n i) (sym (left_from-other kept_by_record nothing_kept before (take (k + 1) rs) r room are other)) well
       ]
 

@@ -11,7 +11,7 @@ use Rattle.acceptor_log_form.specs.declared.record.Record.{Record}
 use Rattle.acceptor_log_form.specs.declared.record.Record.TheVariants.{Offered, Started, Proposed, Promised, Accepted, Summary}
 use Rattle.acceptor_log_form.specs.Text.{block_text, blocks, room_of, Fits, FitsWidths}
 use Rattle.acceptor_log_form.specs.Leaves.{kept_by_record, proposed_by, kept_in, proposed_in}
-use Rattle.acceptor_log_form.specs.Order.{MayFollow, MayFollow, AreInOrder}
+use Rattle.acceptor_log_form.specs.Order.{MayComeNext, MayFollow, AreInOrder}
 use Rattle.acceptor_log_form.proofs.LeavesLemmas.{left_from-own, left_from-other}
 use Rattle.acceptor_log_reading.proofs.ReadBlocks.{one_more_read}
 use Rattle.acceptor_log_old.specs.OldText.{is_plain, are_plain}
@@ -175,7 +175,7 @@ module _ (bytes : List ℕ) (rs : List Record) (m : ℕ) (was now : ℕ × ℕ) 
       subst (λ x. ArePlaced bytes (offered m x) now)
       (sym (offer_in-append rs (Offered m o ∷ []) m ∙ ap (λ x. or_else x (first_offer_in (Offered m o ∷ []) m)) none ∙ ap (λ t. cond t (Some o) None) (eq-eqb m m refl))) here
 
-  own_offer : (n i : ℕ) (kept : KeptPart) (proposed : ℕ) (r : Record) → room_of r ≡ m → kept ≡ kept_in rs m → MayFollow n i kept proposed r → ArePlaced bytes (r ∷ []) now
+  own_offer : (n i : ℕ) (kept : KeptPart) (proposed : ℕ) (r : Record) → room_of r ≡ m → kept ≡ kept_in rs m → MayComeNext n i kept proposed r → ArePlaced bytes (r ∷ []) now
       → ArePlaced bytes (offered m (first_offer_in (rs ++ r ∷ []) m)) (place_by was now r)
   own_offer n i kept proposed (Offered room o) own is goes here =
       subst (λ k. ArePlaced bytes (offered m (first_offer_in (rs ++ Offered k o ∷ []) m)) now) (sym own)
@@ -191,15 +191,15 @@ module _ (n i : ℕ) (bytes : List ℕ) (rs : List Record) (rooms : List Room) (
   there : k < length rooms
   there = slice_get_within rooms k x here
 
-  goes_on_here : MayFollow n i x.kept x.proposed r → MayFollow n i (2 ^ 16) rs r
+  goes_on_here : MayComeNext n i x.kept x.proposed r → MayFollow n i (2 ^ 16) rs r
   goes_on_here goes =
       let found = are.each k x here in (
         omega (arith, own, there, are.most),
-        subst (λ m. MayFollow n i (kept_in rs m) (proposed_in rs m) r) own
-            (subst (λ p. MayFollow n i p (proposed_in rs k) r) found.kept (subst (λ b. MayFollow n i x.kept b r) found.proposed goes)),
+        subst (λ m. MayComeNext n i (kept_in rs m) (proposed_in rs m) r) own
+            (subst (λ p. MayComeNext n i p (proposed_in rs k) r) found.kept (subst (λ b. MayComeNext n i x.kept b r) found.proposed goes)),
       )
 
-  pub found_next : (place : ℕ × ℕ) (next : Room) → ArePlaced bytes (r ∷ []) place → is_plain r ≡ true → MayFollow n i x.kept x.proposed r → next.kept ≡ kept_by_record x.kept r
+  pub found_next : (place : ℕ × ℕ) (next : Room) → ArePlaced bytes (r ∷ []) place → is_plain r ≡ true → MayComeNext n i x.kept x.proposed r → next.kept ≡ kept_by_record x.kept r
       → next.proposed ≡ proposed_by x.proposed r → next.place ≡ place_by x.place place r → AreFound n i bytes (rs ++ r ∷ []) (set rooms k next)
   found_next place next placed plain goes kept proposed moved =
       let found = are.each k x here in
@@ -232,5 +232,5 @@ module _ (n i : ℕ) (bytes : List ℕ) (rs : List Record) (rooms : List Room) (
   broken_here broken plain order =
       let found = are.each k x here in
       broken (plain_parts rs r plain).1
-      (subst (λ b. MayFollow n i x.kept b r) (sym found.proposed) (subst (λ p. MayFollow n i p (proposed_in rs k) r) (sym found.kept)
-      (subst (λ m. MayFollow n i (kept_in rs m) (proposed_in rs m) r) (sym own) (last_follows n i (2 ^ 16) rs r order).1)))
+      (subst (λ b. MayComeNext n i x.kept b r) (sym found.proposed) (subst (λ p. MayComeNext n i p (proposed_in rs k) r) (sym found.kept)
+      (subst (λ m. MayComeNext n i (kept_in rs m) (proposed_in rs m) r) (sym own) (last_follows n i (2 ^ 16) rs r order).1)))

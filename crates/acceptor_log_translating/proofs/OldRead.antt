@@ -14,7 +14,7 @@ use Rattle.acceptor_log_old.proofs.OldTexts.{old_listed-none, old_listed-cut}
 use Rattle.acceptor_log_translating.specs.declared.translating.Text.{Text}
 use Rattle.acceptor_log_translating.specs.declared.stepping.Room.{Room}
 use Rattle.acceptor_log_translating.specs.Found.{AreBroken, AreFound}
-use Rattle.acceptor_log_translating.specs.Texts.{IsMigratedText, IsTooLong}
+use Rattle.acceptor_log_translating.specs.Texts.{IsTextOfRooms, IsTooLong}
 use Rattle.acceptor_log_translating.specs.Old.{CanMigrate, IsNotMigrated, IsTextFor}
 
 module _ (h : Header) (bytes behind : List ℕ) where
@@ -40,10 +40,10 @@ module _ (h : Header) (bytes behind : List ℕ) where
       by false other = inl (form, header, old_listed-none h rs bytes behind is stands other)
 
 module _ (h : Header) (bytes behind : List ℕ) (rooms : List Room) (rs : List Record) (r : Result Text LogError) (can : CanMigrate h rs bytes) (are : AreFound h.nodes h.node behind rs rooms) where
-  pub made_of : IfOk r (IsMigratedText h behind rooms) → IfOk r (IsTextFor h bytes)
+  pub made_of : IfOk r (IsTextOfRooms h behind rooms) → IfOk r (IsTextFor h bytes)
   made_of ok = by r ok
     where
-      by : (x : Result Text LogError) → IfOk x (IsMigratedText h behind rooms) → IfOk x (IsTextFor h bytes)
+      by : (x : Result Text LogError) → IfOk x (IsTextOfRooms h behind rooms) → IfOk x (IsTextFor h bytes)
       by (Ok text) made = (rs, can, made rs are)
       by (Err e) none = tt
 

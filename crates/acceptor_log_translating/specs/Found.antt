@@ -5,7 +5,7 @@ use Rattle.acceptor_log_form.specs.declared.record.Record.{Record}
 use Rattle.acceptor_log_form.specs.declared.record.Record.TheVariants.{Offered, Started, Proposed, Promised, Accepted, Summary}
 use Rattle.acceptor_log_form.specs.Text.{blocks, Fits}
 use Rattle.acceptor_log_form.specs.Leaves.{kept_in, proposed_in}
-use Rattle.acceptor_log_form.specs.Order.{MayFollow, AreInOrder}
+use Rattle.acceptor_log_form.specs.Order.{MayComeNext, AreInOrder}
 use Rattle.acceptor_log_old.specs.OldText.{is_plain, are_plain}
 use Rattle.acceptor_log_translating.specs.declared.stepping.Room.{Room}
 use Rattle.acceptor_log_translating.specs.declared.finding.Found.{Found}
@@ -30,7 +30,7 @@ place_by was now (Summary room s p x) = was
 
 -- a record that an old journal may not have, or that does not go on from what was left of its room
 abbrev pub IsBroken : ℕ → ℕ → KeptPart → ℕ → Record → Type 0
-IsBroken n i kept proposed r = is_plain r ≡ true → MayFollow n i kept proposed r → ⊥
+IsBroken n i kept proposed r = is_plain r ≡ true → MayComeNext n i kept proposed r → ⊥
 
 -- records that an old journal may not have, or that break the order
 abbrev pub AreBroken : ℕ → ℕ → List Record → Type 0

@@ -12,8 +12,8 @@ use Rattle.acceptor_log_translating.specs.Found.{IsFound, EachIsFound, AreFound}
 use Rattle.acceptor_log_translating.specs.Translating.{IsAdded, IsMigratedText}
 
 -- what was found of all rooms makes this text
-abbrev pub IsMigratedText : Header → List ℕ → List Room → Text → Type 0
-IsMigratedText h bytes rooms text =
+abbrev pub IsTextOfRooms : Header → List ℕ → List Room → Text → Type 0
+IsTextOfRooms h bytes rooms text =
     (rs : List Record) → AreFound h.nodes h.node bytes rs rooms → IsMigratedText h (migrated rs) text
 
 -- it makes one that no journal may have

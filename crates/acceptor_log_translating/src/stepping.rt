@@ -3,7 +3,7 @@
 ghost use Rattle.std.specs.Prelude.{◌≡◌, ◌≢◌, ◌<◌, ◌≤◌, ◌↔◌, true, false, IsTrue, OnSome, IfSome, IfNone};
 ghost use Rattle.paxos_core_world.specs.Ballot.{Owns};
 ghost use Rattle.acceptor_log_form.specs.Leaves.{kept_by_record, proposed_by};
-ghost use Rattle.acceptor_log_form.specs.Order.{MayFollow};
+ghost use Rattle.acceptor_log_form.specs.Order.{MayComeNext};
 ghost use Rattle.acceptor_log_old.specs.OldText.{is_plain};
 ghost use Rattle.acceptor_log_translating.specs.Found.{place_by, nothing_found, IsBroken};
 
@@ -43,7 +43,7 @@ pub fn room_after(
 ) -> Option<Room>
     requires { 0 < header.now.nodes }
     ensures plain { OnSome result (is_plain entry.now ≡ true) }
-    ensures goes_on { OnSome result (MayFollow header.now.nodes header.now.node room.kept room.proposed entry.now) }
+    ensures goes_on { OnSome result (MayComeNext header.now.nodes header.now.node room.kept room.proposed entry.now) }
     ensures kept { IfSome result (λ next. next.kept ≡ kept_by_record room.kept entry.now) }
     ensures proposed { IfSome result (λ next. next.proposed ≡ proposed_by room.proposed entry.now) }
     ensures place { IfSome result (λ next. next.place ≡ place_by room.place place entry.now) }
@@ -87,7 +87,7 @@ pub fn room_after(
 fn goes_on(header: &Header, kept: Kept, proposed: u16, entry: &Record) -> bool
     requires { 0 < header.now.nodes }
     ensures plain { IsTrue result → is_plain entry.now ≡ true }
-    ensures yes { IsTrue result → MayFollow header.now.nodes header.now.node kept proposed entry.now }
+    ensures yes { IsTrue result → MayComeNext header.now.nodes header.now.node kept proposed entry.now }
     ensures no { result ≡ false → IsBroken header.now.nodes header.now.node kept proposed entry.now }
 {
     match entry {

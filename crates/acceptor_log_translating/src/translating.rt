@@ -7,7 +7,7 @@ ghost use Rattle.acceptor_log_form.specs.Text.{HasLength, block_text};
 ghost use Rattle.acceptor_log_old.specs.Migrated.{told, summary_of};
 ghost use Rattle.acceptor_log_translating.specs.Translating.{IsAdded};
 ghost use Rattle.acceptor_log_translating.specs.Found.{part_at, IsPlace, AreFound, CanBeWritten};
-ghost use Rattle.acceptor_log_translating.specs.Texts.{IsMigratedText, IsTooLong, IsTextBelow, AreRoomsAdded, IsRoomAdded, IsOfferAdded};
+ghost use Rattle.acceptor_log_translating.specs.Texts.{IsTextOfRooms, IsTooLong, IsTextBelow, AreRoomsAdded, IsRoomAdded, IsOfferAdded};
 ghost use Rattle.acceptor_log_translating.specs.Old.{IsNotMigrated, IsTextFor};
 
 use crate::finding::{Found, find};
@@ -56,7 +56,7 @@ pub fn translate(alloc: Global, header: &Header, bytes: &[u8]) -> Result<Text, L
 /// The text for what was found of the rooms.
 fn text_of(alloc: Global, header: &Header, bytes: &[u8], rooms: &[Room]) -> Result<Text, LogError>
     requires { (rs : List Record) × AreFound header.now.nodes header.now.node bytes.now rs rooms.now }
-    ensures made { IfOk result (IsMigratedText header.now bytes.now rooms.now) }
+    ensures made { IfOk result (IsTextOfRooms header.now bytes.now rooms.now) }
     ensures fewer { IfOk result (λ text. text.count ≤ text.gate) }
     ensures refused { IfErr result (λ e. e ≢ LogError.NoMemory → IsTooLong header.now bytes.now rooms.now e) }
 {

@@ -15,9 +15,10 @@ pub(crate) struct Before<'a> {
     /// From where to before where the statement goes, as far as it has tokens.
     pub start: usize,
     pub end: usize,
-    /// How many braces are open, and parentheses in the statement.
+    /// How many braces are open, and parentheses and brackets in the statement.
     pub braces: usize,
     pub parentheses: usize,
+    pub brackets: usize,
 }
 
 impl<'a> Before<'a> {
@@ -32,15 +33,32 @@ impl<'a> Before<'a> {
             end: 0,
             braces: 0,
             parentheses: 0,
+            brackets: 0,
+        }
+    }
+
+    /// Whether nothing of a statement or a declaration stands in front.
+    pub(crate) fn is_nothing_begun(&self) -> bool {
+        self.last == ";" && self.parentheses == 0
+            || self.last == "{"
+            || self.last == "}"
+            || self.last.is_empty()
+    }
+
+    /// How many brackets are open behind this token.
+    fn brackets_behind(&self, token: &str) -> usize {
+        match token {
+            "[" => self.brackets.saturating_add(1),
+            "]" => self.brackets.saturating_sub(1),
+            "{" | "}" | ";" => 0,
+            _ => self.brackets,
         }
     }
 
     /// The same behind one more token.
     fn behind(self, token: &'a str, start: usize, end: usize) -> Before<'a> {
-        let begins = self.last == ";" && self.parentheses == 0
-            || self.last == "{"
-            || self.last == "}"
-            || self.last.is_empty();
+        let begins = self.is_nothing_begun();
+        let brackets = self.brackets_behind(token);
         let (parentheses, braces) = match token {
             "(" => (self.parentheses.saturating_add(1), self.braces),
             ")" => (self.parentheses.saturating_sub(1), self.braces),
@@ -61,6 +79,7 @@ impl<'a> Before<'a> {
             end,
             braces,
             parentheses,
+            brackets,
         }
     }
 }

@@ -2,9 +2,12 @@
 
 use crate::before::{Before, tokens_before};
 use crate::excerpt::write_excerpt;
-use crate::hints::{hint, seems_unended};
+use crate::hints::{CHARACTERS, hint, hint_at_byte};
+use crate::missing::{missing_behind, missing_mark};
+use crate::names::{hint_at_count, hint_at_name, hint_at_second};
+use crate::numbers::{hint_at_number, limit_at};
 use crate::place::place_of;
-use crate::words::{bytes_between, first_part, word_of};
+use crate::words::{bytes_between, first_part, token_from, word_of};
 use std::alloc::{AllocError, Global};
 
 /// How many bytes of a statement are shown.
@@ -32,9 +35,38 @@ fn statement_of<'a>(text: &'a [u8], before: &Before<'a>) -> &'a str {
     }
 }
 
+/// What is said of a mark of the byte order.
+const BYTE_ORDER: &str = "a byte order mark stands in front: save the text without it";
+
 /// Whether the text begins with the mark of the byte order of UTF-8, and this is its place.
 fn is_byte_order_mark(text: &[u8], at: usize) -> bool {
     at == 0 && matches!(text, [0xEF, 0xBB, 0xBF, ..])
+}
+
+/// What is said of a token that does not fit.
+fn said_of_syntax(
+    alloc: Global,
+    text: &[u8],
+    at: usize,
+    found: &str,
+) -> Result<Option<String>, AllocError> {
+    let before = tokens_before(text, at);
+    let is_on_new_line = bytes_between(text, before.end, at).contains(&b'\n');
+    if let Some(mark) = missing_mark(found, is_on_new_line, &before) {
+        let statement = statement_of(text, &before);
+        return Ok(Some(format!(in alloc; "`{found}` after `{statement}`: is `{mark}` missing?")?));
+    }
+    if found.is_empty() {
+        let wanted = if before.braces > 0 { "}" } else { ";" };
+        return Ok(Some(format!(in alloc; "the text ends: is `{wanted}` missing?")?));
+    }
+    if let Some(last) = missing_behind(found, &before) {
+        return Ok(Some(format!(in alloc; "`{found}`: a value is missing behind `{last}`")?));
+    }
+    match hint(found, &before) {
+        Some(hint) => Ok(Some(format!(in alloc; "`{found}`: {hint}")?)),
+        None => Ok(None),
+    }
 }
 
 /// What is said of the fault: a hint, or else the sentence.
@@ -45,22 +77,27 @@ fn said(
     at: usize,
     sentence: &str,
 ) -> Result<String, AllocError> {
-    if number == 201 && is_byte_order_mark(text, at) {
-        return format!(in alloc; "a byte order mark stands in front: save the text without it");
-    }
-    let before = tokens_before(text, at);
     let found = token_at(text, at);
-    let is_on_new_line = bytes_between(text, before.end, at).contains(&b'\n');
-    if number == 210 && seems_unended(found, is_on_new_line, &before) {
-        let statement = statement_of(text, &before);
-        return format!(in alloc; "`{found}` after `{statement}`: is `;` missing?");
-    }
-    if number == 210 && found.is_empty() {
-        let wanted = if before.braces > 0 { "}" } else { ";" };
-        return format!(in alloc; "the text ends: is `{wanted}` missing?");
-    }
-    match hint(number, found, &before) {
-        Some(hint) => format!(in alloc; "`{found}`: {hint}"),
+    let hint = match number {
+        201 if is_byte_order_mark(text, at) => Some(format!(in alloc; "{}", BYTE_ORDER)?),
+        201 => match hint_at_byte(found, token_from(text, at.saturating_add(1)).word) {
+            Some(hint) => Some(format!(in alloc; "`{found}`: {hint}")?),
+            None => None,
+        },
+        203 => match hint_at_number(found) {
+            Some(hint) => Some(format!(in alloc; "`{found}`: {hint}")?),
+            None => None,
+        },
+        204 => Some(format!(in alloc; "{}", CHARACTERS)?),
+        210 => said_of_syntax(alloc, text, at, found)?,
+        220 => hint_at_name(alloc, text, at, found)?,
+        221 => hint_at_second(alloc, text, at, found)?,
+        222 => hint_at_count(alloc, text, at, found)?,
+        228 => Some(format!(in alloc; "`{found}`: {}", limit_at(text, at, found))?),
+        _ => None,
+    };
+    match hint {
+        Some(hint) => Ok(hint),
         None => format!(in alloc; "{sentence}"),
     }
 }

@@ -96,6 +96,39 @@ pub(crate) fn first_part(text: &[u8]) -> Part {
     }
 }
 
+/// A token of a text, with the offsets where it begins and behind which it ends; empty at the end of the text.
+#[derive(Clone, Copy, Debug)]
+pub(crate) struct Token<'a> {
+    pub word: &'a str,
+    pub start: usize,
+    pub end: usize,
+}
+
+/// The first token that begins at this offset or behind it, where none begins before. The time is linear in what it passes.
+pub(crate) fn token_from(text: &[u8], from: usize) -> Token<'_> {
+    let mut next = from;
+    for _ in from..text.len() {
+        let part = first_part(bytes_between(text, next, text.len()));
+        let end = next.saturating_add(part.length);
+        if part.is_token {
+            return Token {
+                word: word_of(bytes_between(text, next, end)),
+                start: next,
+                end,
+            };
+        }
+        next = end;
+        if next >= text.len() {
+            break;
+        }
+    }
+    Token {
+        word: "",
+        start: text.len(),
+        end: text.len(),
+    }
+}
+
 /// The bytes of a text from one offset to before another, as far as it has them.
 pub(crate) fn bytes_between(text: &[u8], start: usize, end: usize) -> &[u8] {
     match text.get(start..end) {

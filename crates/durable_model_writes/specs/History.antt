@@ -30,16 +30,16 @@ seen_after [] first = first
 seen_after (last ∷ earlier) first = after last.0 last.1 (seen_after earlier first)
 
 -- what a crash may leave after a call, where it might have left `before`, and a read gave `seen`
-abbrev pub MayLeave : Call → List ℕ → (List ℕ → Type 0) → List ℕ → List ℕ → Type 0
-MayLeave (Wrote at n) bytes before seen c = (d : List ℕ) × before d × Torn at (length bytes) d c
-MayLeave (Tore at n) bytes before seen c = (d : List ℕ) × before d × Torn at n d c
-MayLeave Synced bytes before seen c = c ≡ seen
-MayLeave Left bytes before seen c = before c
+abbrev pub MayLeaveAfter : Call → List ℕ → (List ℕ → Type 0) → List ℕ → List ℕ → Type 0
+MayLeaveAfter (Wrote at n) bytes before seen c = (d : List ℕ) × before d × Torn at (length bytes) d c
+MayLeaveAfter (Tore at n) bytes before seen c = (d : List ℕ) × before d × Torn at n d c
+MayLeaveAfter Synced bytes before seen c = c ≡ seen
+MayLeaveAfter Left bytes before seen c = before c
 
 -- what a crash may leave after these calls, on a disk that held `first`, all of it synced
 abbrev pub MayLeave : List (Call × List ℕ) → List ℕ → List ℕ → Type 0
 MayLeave [] first c = c ≡ first
-MayLeave (last ∷ earlier) first c = MayLeave last.0 last.1 (MayLeave earlier first) (seen_after earlier first) c
+MayLeave (last ∷ earlier) first c = MayLeaveAfter last.0 last.1 (MayLeave earlier first) (seen_after earlier first) c
 
 -- what a crash might have left at some moment when t calls or more were done
 pub record LeftSince (history : List (Call × List ℕ)) (first : List ℕ) (t : ℕ) (c : List ℕ) : Type 0 where
@@ -78,7 +78,7 @@ TearsAll calls written seen old new =
     (first : List ℕ) (h : List (Call × List ℕ)) → seen ≡ seen_after h first → MayLeave h first old → MayLeave (noted calls written h) first new
 
 seen_by : (call : Call) (bytes : List ℕ) (before : List ℕ → Type 0) (seen : List ℕ) → before seen
-    → MayLeave call bytes before seen (after call bytes seen)
+    → MayLeaveAfter call bytes before seen (after call bytes seen)
 seen_by (Wrote at n) bytes before seen here = (seen, here, torn_overwritten seen at bytes)
 seen_by (Tore at n) bytes before seen here = (seen, here, torn_nothing seen at n)
 seen_by Synced bytes before seen here = refl

@@ -3,7 +3,7 @@ use Rattle.std.specs.Prelude.{◌≡◌, ◌↔◌, ℕ, List, [], length, Resul
 use Rattle.durable_model_writes.specs.declared.call.Call.{Call}
 use Rattle.durable_model_writes.specs.declared.call.Call.TheVariants.{Wrote, Tore, Synced, Left}
 use Rattle.durable_model_writes.specs.Writes.{overwritten, Torn}
-use Rattle.durable_model_writes.specs.History.{MayLeave}
+use Rattle.durable_model_writes.specs.History.{MayLeaveAfter}
 use Rattle.durable_model.specs.declared.disk.Disk as disks
 use Rattle.durable_model.specs.declared.error.DiskError.{DiskError}
 use Rattle.durable_model.specs.declared.error.DiskError.TheVariants.{Device, NoMemory}
@@ -23,7 +23,7 @@ pub record Does {D : Type 0} (moment : D → ℕ) (both_since : D → ℕ → Im
     (seen : D → List ℕ) (may : D → List ℕ → Type 0) (other_seen : D → List ℕ) (other_may : D → List ℕ → Type 0)
     (call : Call) (bytes : List ℕ) (old new : D) : Type 0 where
   pub sees : Sees call bytes (seen old) (seen new)
-  pub left : (c : List ℕ) → may new c → MayLeave call bytes (may old) (seen old) c
+  pub left : (c : List ℕ) → may new c → MayLeaveAfter call bytes (may old) (seen old) c
   pub other_same : other_seen new ≡ other_seen old
   pub other_left : (c : List ℕ) → other_may new c ↔ other_may old c
   pub time : Elapses moment both_since both_may old new

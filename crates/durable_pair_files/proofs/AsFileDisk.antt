@@ -4,7 +4,7 @@ use Rattle.std.specs.Prelude.{◌↔◌}
 use Rattle.durable_model_writes.specs.declared.call.Call.{Call}
 use Rattle.durable_model_writes.specs.declared.call.Call.TheVariants.{Wrote, Tore, Synced, Left}
 use Rattle.durable_model_writes.specs.Writes.{Torn, torn_nothing}
-use Rattle.durable_model_writes.specs.History.{MayLeave}
+use Rattle.durable_model_writes.specs.History.{MayLeaveAfter}
 use Rattle.durable_model.specs.Honest.{Only, NothingNew, Follows, Unchanged, Elapses}
 use Rattle.durable_pair_files.specs.declared.file.FilePair.{FilePair}
 use Rattle.durable_pair_held.specs.Past.{both_as_kept, shown_is_new, new_is_shown}
@@ -26,7 +26,7 @@ module _ (old new : FilePair) where
       keeps = λ t c le left. (left.0, does.time.keeps t left.0 le left.1, left.2);
     }
 
-    follows : (at n : ℕ) → ((c : List ℕ) → MayLeave call bytes (file_may_leave_new old) (seen_in_file old) c → (d : List ℕ) × file_may_leave_new old d × Torn at n d c)
+    follows : (at n : ℕ) → ((c : List ℕ) → MayLeaveAfter call bytes (file_may_leave_new old) (seen_in_file old) c → (d : List ℕ) × file_may_leave_new old d × Torn at n d c)
         → OldFileIsSpent old → Follows (Torn at n) (files_may_show old) (files_may_show new)
     follows at n tears spent c left =
         let was = tears c (does.left c (shown_is_new (past_of new.held) c (file_honest.1 spent) left)) in

@@ -84,7 +84,7 @@ module _ (p : Past) (step : Step) (f : Content) where
   -- what a step does, where its call sees and leaves so
   module _ (call : Call) (bytes : List ℕ) where
     pub new_does : before step f ≡ p.new → Sees call bytes (seen_new p) f.0
-        → ((c : List ℕ) → IsLeftBehind (step ∷ of_new p.notes) f c → history.MayLeave call bytes (may_leave_new p) (seen_new p) c)
+        → ((c : List ℕ) → IsLeftBehind (step ∷ of_new p.notes) f c → history.MayLeaveAfter call bytes (may_leave_new p) (seen_new p) c)
         → DoesNew call bytes p (more_new step f p)
     new_does was sees leaves = record {
       sees = sees;
@@ -99,7 +99,7 @@ module _ (p : Past) (step : Step) (f : Content) where
     }
 
     pub old_does : before step f ≡ p.old → Sees call bytes (seen_old p) f.0
-        → ((c : List ℕ) → IsLeftBehind (step ∷ of_old p.notes) f c → history.MayLeave call bytes (may_leave_old p) (seen_old p) c)
+        → ((c : List ℕ) → IsLeftBehind (step ∷ of_old p.notes) f c → history.MayLeaveAfter call bytes (may_leave_old p) (seen_old p) c)
         → DoesOld call bytes p (more_old step f p)
     old_does was sees leaves = record {
       sees = sees;
@@ -116,7 +116,7 @@ module _ (p : Past) (step : Step) (f : Content) where
 -- what a write leaves, done or torn
 wrote_leaves : (steps : List Step) (f was : Content) (step : Step) (at : ℕ) (bytes : List ℕ) (len : ℕ) → step ≡ Write at (length bytes) len → before step f ≡ was
     → f.0 ≡ overwritten was.0 at bytes → IsLeftBehind steps was was.0 → (c : List ℕ) → IsLeftBehind (step ∷ steps) f c
-    → history.MayLeave (Wrote at (length bytes)) bytes (IsLeftBehind steps was) was.0 c
+    → history.MayLeaveAfter (Wrote at (length bytes)) bytes (IsLeftBehind steps was) was.0 c
 wrote_leaves steps f was step at bytes len is undone now here c left =
     let undo : before (Write at (length bytes) len) f ≡ was = ap (λ (s : Step). before s f) (sym is) ∙ undone in
     elim (subst (λ (s : Step). IsLeftBehind (s ∷ steps) f c) is left) [

@@ -4,7 +4,7 @@ use Rattle.std.specs.Prelude.{◌↔◌}
 use Rattle.durable_model_writes.specs.declared.call.Call.{Call}
 use Rattle.durable_model_writes.specs.declared.call.Call.TheVariants.{Wrote, Tore, Synced, Left}
 use Rattle.durable_model_writes.specs.Writes.{Torn, torn_nothing}
-use Rattle.durable_model_writes.specs.History.{MayLeave}
+use Rattle.durable_model_writes.specs.History.{MayLeaveAfter}
 use Rattle.durable_model.specs.Honest.{Only, NothingNew, Follows, Unchanged, Elapses}
 use Rattle.durable_model.specs.Memory.{left_as_kept}
 use Rattle.durable_pair_memory.specs.declared.memory.MemoryPair.{MemoryPair}
@@ -24,7 +24,7 @@ module _ (old new : MemoryPair) (call : Call) (bytes : List ℕ) (does : DoesNew
     keeps = λ t c le left. (left.0, does.time.keeps t left.0 le left.1, left.2);
   }
 
-  follows : (at n : ℕ) → ((c : List ℕ) → MayLeave call bytes (may_leave_new old) (seen_new old) c → (d : List ℕ) × may_leave_new old d × Torn at n d c)
+  follows : (at n : ℕ) → ((c : List ℕ) → MayLeaveAfter call bytes (may_leave_new old) (seen_new old) c → (d : List ℕ) × may_leave_new old d × Torn at n d c)
       → OldIsSpent old → Follows (Torn at n) (may_show old) (may_show new)
   follows at n tears spent c left =
       let was = tears c (does.left c (shown_is_new new c (as_honest.1 spent) left)) in

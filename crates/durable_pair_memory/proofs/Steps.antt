@@ -4,7 +4,7 @@ use Rattle.std.specs.Prelude.{◌↔◌, ⊤}
 use Rattle.durable_model_writes.specs.declared.call.Call.{Call}
 use Rattle.durable_model_writes.specs.declared.call.Call.TheVariants.{Wrote, Tore, Synced, Left}
 use Rattle.durable_model_writes.specs.Writes.{overwritten, Torn, torn_nothing, torn_overwritten}
-use Rattle.durable_model_writes.specs.History.{noted, after, seen_after, MayLeave, MayLeave}
+use Rattle.durable_model_writes.specs.History.{noted, after, seen_after, MayLeaveAfter, MayLeave}
 use Rattle.durable_model.specs.declared.memory.MemoryDisk.{MemoryDisk}
 use Rattle.durable_model.specs.Honest.{Elapses}
 use Rattle.durable_model.specs.Memory.{history, seen_by_memory, memory_may_leave, Notes, StandsAs}
@@ -31,9 +31,9 @@ module _ (call : Call) (bytes : List ℕ) (old new : MemoryDisk) (notes : Notes 
   note_sees : Sees call bytes (seen_by_memory old) (seen_by_memory new)
   note_sees = subst (λ (s : List ℕ). Sees call bytes (seen_by_memory old) s) (sym seen_is) (sees_after call bytes (seen_by_memory old))
 
-  note_leaves : (c : List ℕ) → memory_may_leave new c → MayLeave call bytes (memory_may_leave old) (seen_by_memory old) c
+  note_leaves : (c : List ℕ) → memory_may_leave new c → MayLeaveAfter call bytes (memory_may_leave old) (seen_by_memory old) c
   note_leaves c left =
-      subst (λ (s : List ℕ). MayLeave call bytes (memory_may_leave old) s c) (sym old.kept)
+      subst (λ (s : List ℕ). MayLeaveAfter call bytes (memory_may_leave old) s c) (sym old.kept)
       (may_of (history new) ((call, bytes) ∷ history old) new.first.items old.first.items c notes.history_is notes.first_is left)
 
 -- beside a call on the other disk this one is as it was
@@ -123,7 +123,7 @@ idle_sees (Tore at n) seen idle = torn_nothing seen at n
 idle_sees Synced seen idle = absurd idle
 idle_sees Left seen idle = refl
 
-idle_leaves : (call : Call) (may : List ℕ → Type 0) (seen c : List ℕ) → IsIdle call → may c → MayLeave call [] may seen c
+idle_leaves : (call : Call) (may : List ℕ → Type 0) (seen c : List ℕ) → IsIdle call → may c → MayLeaveAfter call [] may seen c
 idle_leaves (Wrote at n) may seen c idle left = absurd idle
 idle_leaves (Tore at n) may seen c idle left = (c, left, torn_nothing c at n)
 idle_leaves Synced may seen c idle left = absurd idle

@@ -1,5 +1,5 @@
 -- A node that was not asked yet is sound.
-use Rattle.std.proofs.Common.{◌≡◌, ◌++◌, ℕ, suc, ◌*◌, length, List, [], ◌∷◌, map, slice_get, All, Option, Some, None, refl, sym, subst}
+use Rattle.std.proofs.Common.{◌≡◌, ◌++◌, ℕ, suc, ◌*◌, length, List, [], ◌∷◌, map, slice_get, All, Option, Some, None, inl, refl, sym, subst}
 use Rattle.std.proofs.lemmas.List.{append-nil}
 use Rattle.std.proofs.lemmas.List.Elements.{All-nil, All-cons, All-head, All-tail}
 use Rattle.acceptor_log_form.specs.declared.record.Record.{Record}
@@ -25,12 +25,7 @@ module _ {D X1 X2 X3 X4 : Type 0} (texts : Texts X1 X2 X3 X4) (is_honest : D →
         named = held.named honest;
         in_order = subst (λ (l : List Record). AreInOrder log.header.nodes log.header.node (4 * length seats) l) (sym whole) (held.in_order honest);
         unproposed = held.unproposed honest;
-        left = λ c left. record {
-          records = rs;
-          stands = subst (λ (bytes : List ℕ). StandsFor log.header rs bytes) (sym (ready.rests.durable c left)) ready.rests.stands;
-          all_of_low = ([], sym whole);
-          none_else = ([], refl);
-        };
+        left = λ c left. inl (subst (λ (bytes : List ℕ). StandsFor log.header rs bytes) (sym (ready.rests.durable c left)) ready.rests.stands);
       }
 
   pub sound_of : IsSoundBy texts is_honest seen may_leave log seats None

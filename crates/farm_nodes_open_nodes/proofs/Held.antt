@@ -35,7 +35,7 @@ use Rattle.farm_nodes_open_seats.specs.Leaves.{Leave}
 use Rattle.farm_nodes_open_seats.specs.Texts.{pass_texts, IsOwnTextIn}
 use Rattle.farm_nodes_open_seats.specs.Told.{IsOwnText, IsToldAs}
 use Rattle.farm_nodes_open_seats.specs.FarmNodesTurnOfferPending.{IsOfferText}
-use Rattle.farm_nodes_open_seats.specs.Written.{offer_in}
+use Rattle.farm_nodes_open_seats.specs.Written.{last_offer_in}
 use Rattle.farm_nodes_open_seats.specs.Numbers.{function_of, pass_at, pass_of, place_of, room_at}
 use Rattle.farm_nodes_open_seats.specs.Offers.{ConstantsOffer, ExpressionsOffer, AllocationOffer, OrderOffer}
 use Rattle.farm_nodes_open_seats.specs.NumberedSeat.{NumberedSeat}
@@ -80,7 +80,7 @@ module _ {J P A B C I O N : Type 0} (from : language.Ghosts A I) (to : language.
     (kept : List (Vec KeptPart)) (show : N → SeatValue (Parts I O C) × Claimed) (rows : List (List N)) (sizes : AreQuorums q) (long : All (λ row. length row ≡ functions) rows)
     (seated : AreSeatedIn from to by which q functions journals kept show rows) where
   owned : (i f : ℕ) (row : List N) (x : N) (j : J × Vec Record) → slice_get rows i ≡ Some row → slice_get row f ≡ Some x → slice_get journals i ≡ Some j → f < functions → (show x).0.words.node.me ≡ i
-      → (kept_in j.1.items (room_at f which)).offered ≡ true → IsToldAs (IsOwnText (IsOfferText from to by) (show x).0) (offer_in j.1.items (room_at f which))
+      → (kept_in j.1.items (room_at f which)).offered ≡ true → IsToldAs (IsOwnText (IsOfferText from to by) (show x).0) (last_offer_in j.1.items (room_at f which))
   owned i f row x j at is j_at below me offered =
       let o = found_at seated.offers i (omega (arith, slice_get_within journals i j j_at, seated.are_offers.count)) in
       let ours = seated.are_offers.each i j o.0 j_at o.1 in
@@ -106,7 +106,7 @@ module _ {J H : Type 0} {h : naming.Ghosts H} (q : Sizes) (functions : ℕ) (jou
         seat_is q seated.kept Order functions (rows_of seated.order.offers) (λ (x : NumberedSeat H h). order_seat x) rows sizes seated.long seated.order.opened (length journals) i f row s k j.1.items at here k_at part below
 
     owns : (pass : Which) (f : ℕ) (s : NumberedSeat H h) → f < functions → slice_get row f ≡ Some s → (kept_in j.1.items (room_at f pass)).offered ≡ true
-        → IsToldAs (IsOwnTextIn pass_texts pass (four_of s)) (offer_in j.1.items (room_at f pass))
+        → IsToldAs (IsOwnTextIn pass_texts pass (four_of s)) (last_offer_in j.1.items (room_at f pass))
     owns Constants f s below here offered =
         owned rtl_language.ghosts rtl_language.ghosts constants.ghosts Constants q functions journals seated.kept (λ (x : NumberedSeat H h). constants_seat x) rows sizes seated.long seated.constants i f row s j at here j_at below (ap (λ n. n.me) (keeps Constants f s below here)) offered
     owns Expressions f s below here offered =
@@ -167,8 +167,8 @@ module _ {J H : Type 0} {h : naming.Ghosts H} (q : Sizes) (functions : ℕ) (jou
           let low : function_of m < functions = omega (arith, slice_get_within row (function_of m) found.0 found.1, row_size) in
           let offered : (kept_in j.1.items (room_at (function_of m) (pass_of m))).offered ≡ true =
           ap (λ room. (kept_in j.1.items room).offered) (room_is m) ∙ (ap (λ n. n.kept.offered) (sym (node_is m s got)) ∙ now) in
-          subst (λ (four : Four ConstantsOffer ExpressionsOffer AllocationOffer OrderOffer). IsToldAs (IsOwnTextIn pass_texts (pass_of m) four) (offer_in j.1.items m)) found.2
-          (subst (λ room. IsToldAs (IsOwnTextIn pass_texts (pass_of m) (four_of found.0)) (offer_in j.1.items room)) (room_is m)
+          subst (λ (four : Four ConstantsOffer ExpressionsOffer AllocationOffer OrderOffer). IsToldAs (IsOwnTextIn pass_texts (pass_of m) four) (last_offer_in j.1.items m)) found.2
+          (subst (λ room. IsToldAs (IsOwnTextIn pass_texts (pass_of m) (four_of found.0)) (last_offer_in j.1.items room)) (room_is m)
           (owns (pass_of m) (function_of m) found.0 low found.1 offered));
     }
 

@@ -10,7 +10,7 @@ use Rattle.farm_nodes_turn_passes.specs.Numbers.{room_at}
 use Rattle.farm_nodes_open_offers.specs.declared.storing.Stored.{Stored}
 use Rattle.farm_nodes_open_offers.specs.Known.{AreKnown}
 use Rattle.farm_nodes_open_offers.specs.Stored.{IsStored, IsStoredText}
-use Rattle.farm_nodes_open_offers.specs.Written.{offer_in}
+use Rattle.farm_nodes_open_offers.specs.Written.{last_offer_in}
 
 module _ {P A B C I O : Type 0} (from : language.Ghosts A I) (to : language.Ghosts B O) (by : pass.Ghosts P A B C I O) where
   -- so it is of a function's number and its offer, of each function whose offers are known from the records
@@ -22,7 +22,7 @@ module _ {P A B C I O : Type 0} (from : language.Ghosts A I) (to : language.Ghos
 
   -- the offer is what stands in the function's room among them
   abbrev pub KnownAreWritten : Type 0
-  KnownAreWritten = OfKnown (λ which rs f offer. IsStoredText from to by (offer_in rs (room_at f which)) offer)
+  KnownAreWritten = OfKnown (λ which rs f offer. IsStoredText from to by (last_offer_in rs (room_at f which)) offer)
 
   -- the node has kept that it offered in that room exactly where there is one
   abbrev pub KnownAreKept : Type 0

@@ -3,14 +3,14 @@
 ghost use Rattle.std.specs.Prelude.{◌≡◌, ℕ, List, is_some};
 ghost use Rattle.acceptor_log_form.specs.declared.record.Record.{Record};
 ghost use Rattle.acceptor_log_form.specs.Leaves.{kept_in};
-ghost use Rattle.farm_nodes_open_offers.specs.Written.{offer_in};
+ghost use Rattle.farm_nodes_open_offers.specs.Written.{last_offer_in};
 ghost use Rattle.farm_nodes_open_offers.specs.KnownOffers.{KnownAreKept, KnownAreWritten};
 
 use lang_base::Pass;
 
 /// A node has kept that it offered in a room exactly where its records have an offer there.
 pub fn offer_is_kept()
-    ensures { (rs : List Record) (room : ℕ) → (kept_in rs room).offered ≡ is_some (offer_in rs room) }
+    ensures { (rs : List Record) (room : ℕ) → (kept_in rs room).offered ≡ is_some (last_offer_in rs room) }
 {}
 
 /// What is known as the offer of a function is what stands in its room among the records.

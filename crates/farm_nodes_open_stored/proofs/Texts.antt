@@ -14,7 +14,7 @@ use Rattle.farm_nodes_open_offers.specs.Known.{last_in, IsAccepted}
 use Rattle.farm_nodes_open_offers.specs.Numbers.{room_at}
 use Rattle.farm_nodes_open_offers.specs.Stored.{IsStoredText}
 use Rattle.farm_nodes_open_offers.specs.Which.{Which}
-use Rattle.farm_nodes_open_offers.specs.Written.{offer_in}
+use Rattle.farm_nodes_open_offers.specs.Written.{last_offer_in}
 use Rattle.farm_nodes_open_offers.proofs.Writing.{known_from}
 use Rattle.farm_nodes_open_stored.specs.Checked.{AreOffers}
 
@@ -39,14 +39,14 @@ module _ {P A B C I O : Type 0} (from : language.Ghosts A I) (to : language.Ghos
   told_by (Some x) text is fits accepted = (x, refl, record { fits = fits; accepted = accepted; text = is })
 
   pub offer_told : (functions f : ℕ) (rs : List Record) (offers : List (Option (Parts I O C))) (offer : Option (Parts I O C)) → AreOffers from to by which functions rs offers
-      → f < functions → slice_get offers f ≡ Some offer → (kept_in rs (room_at f which)).offered ≡ true → (text : List ℕ) × (offer_in rs (room_at f which) ≡ Some text) × IsToldBy offer text
+      → f < functions → slice_get offers f ≡ Some offer → (kept_in rs (room_at f which)).offered ≡ true → (text : List ℕ) × (last_offer_in rs (room_at f which) ≡ Some text) × IsToldBy offer text
   offer_told functions f rs offers offer ours below got offered =
       let rooms : List ℕ = ours.stored.rooms.items in
       let parts : List (Parts I O C) = ours.stored.parts.items in
       let both : Some (last_in f None ours.stored.rooms.items ours.stored.parts.items) ≡ Some offer = sym (ours.known.each f below) ∙ got in
       let same : last_in f None ours.stored.rooms.items ours.stored.parts.items ≡ offer = cc in
       let told = offered_told rs (room_at f which) offered in
-      let is : IsStoredText from to by (offer_in rs (room_at f which)) (last_in f None ours.stored.rooms.items ours.stored.parts.items) =
+      let is : IsStoredText from to by (last_offer_in rs (room_at f which)) (last_in f None ours.stored.rooms.items ours.stored.parts.items) =
       known_from from to by which f rs None None rooms parts tt ours.written.rooms ours.written.texts in
       let text_is : IsStoredText from to by (Some told.0) offer =
       subst (λ (o : Option (Parts I O C)). IsStoredText from to by (Some told.0) o) same

@@ -1,5 +1,5 @@
 -- A node is sound once it came back, and where it was refused.
-use Rattle.std.proofs.Common.{◌≡◌, ℕ, ◌*◌, ◌<◌, true, List, [], ◌++◌, length, append-nil, Option, Some, None, refl, sym, ap, ◌∙◌, subst, arith}
+use Rattle.std.proofs.Common.{◌≡◌, ℕ, ◌*◌, ◌<◌, true, List, [], ◌++◌, length, append-nil, Option, Some, None, inl, refl, sym, ap, ◌∙◌, subst, arith}
 use Rattle.std.specs.Prelude.{slice_get}
 use Rattle.std.proofs.lemmas.Option.{slice_get_within}
 use Rattle.acceptor_log_form.specs.declared.header.Header.{Header}
@@ -67,12 +67,7 @@ module _ {D T1 T2 T3 T4 : Type 0} (texts : Texts T1 T2 T3 T4) (is_honest : D →
             subst (λ (m : ℕ). AreInOrder log.header.nodes log.header.node m (acknowledged seen log ++ [])) size
             (subst (λ (rs : List Record). AreInOrder log.header.nodes log.header.node rooms rs) (sym (append-nil (acknowledged seen log))) (order honest));
         unproposed = rest_unproposed old seats (acknowledged seen log) at_rest;
-        left = λ c left. record {
-          records = acknowledged seen log;
-          stands = rest c honest left;
-          all_of_low = ([], sym (append-nil (acknowledged seen log)));
-          none_else = ([], refl);
-        };
+        left = λ c left. inl (rest c honest left);
       },
       λ none. refl,
     );

@@ -17,7 +17,7 @@ use Rattle.farm_nodes_restart_records.specs.Which.TheVariants.{Constants, Expres
 use Rattle.farm_nodes_restart_records.specs.Fours.{words_of, Four}
 use Rattle.farm_nodes_restart_records.specs.Leaves.{left_in, pending_at, IsPendingIn, Leave, MayPend}
 use Rattle.farm_nodes_restart_records.specs.Texts.{Texts, texts_by, IsOwnTextIn}
-use Rattle.farm_nodes_restart_seat.specs.Told.{offer_by, offer_in, IsToldAs}
+use Rattle.farm_nodes_restart_seat.specs.Told.{offer_by, last_offer_in, IsToldAs}
 use Rattle.farm_nodes_turn_order.proofs.Told.{offer_other, offer_own}
 use Rattle.farm_nodes_restart_records.specs.Found.{EndsWith, IsFound, LeaveWith}
 use Rattle.farm_nodes_restart_records.specs.declared.finding.Found.{Found}
@@ -134,20 +134,20 @@ module _ {X1 X2 X3 X4 : Type 0} (IsText1 : List ℕ → X1 → Type 0) (IsText2 
 
     -- the texts of the offers
     abbrev Tells : Four X1 X2 X3 X4 → ℕ → Type 0
-    Tells s m = (words_of s (pass_of m)).node.kept.offered ≡ true → IsToldAs (IsOwnTextIn (texts_by IsText1 IsText2 IsText3 IsText4) (pass_of m) s) (offer_in rs m)
+    Tells s m = (words_of s (pass_of m)).node.kept.offered ≡ true → IsToldAs (IsOwnTextIn (texts_by IsText1 IsText2 IsText3 IsText4) (pass_of m) s) (last_offer_in rs m)
 
-    told_elsewhere : (m : ℕ) → m ≢ room → offer_in rs m ≡ offer_in front m
+    told_elsewhere : (m : ℕ) → m ≢ room → last_offer_in rs m ≡ last_offer_in front m
     told_elsewhere m other =
-        ap (λ (l : List Record). offer_in l m) ends.2
+        ap (λ (l : List Record). last_offer_in l m) ends.2
         ∙ offer_other front ends.0 m (λ e. other (sym e ∙ own.0))
 
     tells_here : Tells took.after room
     tells_here now =
-        let told = taken_told (pass_of room) p took.before took.after ends.0 (offer_in front room) took.change
+        let told = taken_told (pass_of room) p took.before took.after ends.0 (last_offer_in front room) took.change
         (ap (λ (o : Option (Four X1 X2 X3 X4)). left_in o room (Some p)) (sym took.there) ∙ ends.1)
         (leave.offers room took.before took.there) now in (
           told.0,
-          ap (λ (l : List Record). offer_in l room) ends.2 ∙ (offer_own front ends.0 room own.0 ∙ told.1),
+          ap (λ (l : List Record). last_offer_in l room) ends.2 ∙ (offer_own front ends.0 room own.0 ∙ told.1),
           told.2,
         )
 

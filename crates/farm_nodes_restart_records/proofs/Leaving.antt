@@ -23,7 +23,7 @@ use Rattle.farm_nodes_turn_passes.specs.declared.which.Which.TheVariants.{Consta
 use Rattle.farm_nodes_turn_passes.specs.Fours.{words_of, Four}
 use Rattle.farm_nodes_turn_passes.specs.Leaves.{left_in, pending_at, IsPendingIn, Leave, MayAsk, MayPend}
 use Rattle.farm_nodes_turn_passes.specs.Texts.{Texts, IsOwnTextIn}
-use Rattle.farm_nodes_turn_passes.specs.Told.{offer_in}
+use Rattle.farm_nodes_turn_passes.specs.Told.{last_offer_in}
 use Rattle.farm_nodes_turn_step.proofs.Told.{offered_told, stands_alone, stands_there, told_offered}
 use Rattle.farm_nodes_restart_records.specs.declared.finding.Found.{Found}
 use Rattle.farm_nodes_restart_records.specs.declared.finding.Found.TheVariants as found
@@ -173,10 +173,10 @@ module _ {X1 X2 X3 X4 : Type 0} (texts : Texts X1 X2 X3 X4) where
         let here : slice_get rs k ≡ Some (Offered m text) = at ∙ ap (λ (x : Record). Some x) is in
         let below : m < rooms = (order k (Offered m text) here).0 in
         let s = there_is seats (function_of m) (omega (arith, below, size)) in
-        let first : offer_in rs m ≡ Some text = stands_alone n i rooms rs k m text order here in
+        let first : last_offer_in rs m ≡ Some text = stands_alone n i rooms rs k m text order here in
         let now : (words_of s.0 (pass_of m)).node.kept.offered ≡ true = ap (λ (k : KeptPart). k.offered) (sym (leave.rooms m s.0 s.1)) ∙ told_offered rs m text first in
         let one = leave.offers m s.0 s.1 now in
-        let same : one.0 ≡ text = some_same (offer_in rs m) one.0 text one.1 first in
+        let same : one.0 ≡ text = some_same (last_offer_in rs m) one.0 text one.1 first in
         (s.0, s.1, subst (λ (t : List ℕ). IsOwnTextIn texts (pass_of m) s.0 t) same one.2)
 
 -- ---- what may be pending is asked

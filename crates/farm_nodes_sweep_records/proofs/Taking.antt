@@ -7,7 +7,7 @@ use Rattle.paxos_core_world.specs.KeptPart.{KeptPart}
 use Rattle.acceptor_log_form.specs.declared.record.Record.{Record}
 use Rattle.acceptor_log_form.specs.Text.{room_of}
 use Rattle.acceptor_log_form.specs.Leaves.{kept_by_record, kept_in, proposed_in}
-use Rattle.acceptor_log_form.specs.Order.{AreInOrder, MayFollow, MayFollow}
+use Rattle.acceptor_log_form.specs.Order.{AreInOrder, MayComeNext, MayFollow}
 use Rattle.rooms_seat.specs.SeatState.{SeatState}
 use Rattle.farm_nodes_turn_order.specs.Ordered.{IsUnproposed}
 use Rattle.farm_nodes_turn_order.proofs.Orders.{push_in_order, proposed_below}
@@ -48,8 +48,8 @@ follows_pending seats n i rooms rs pending r stand none may =
     let kept : kept_in (rs ++ pending) room ≡ may.seat.node.kept = kept_behind rs pending room none ∙ stand.kept room may.seat may.there in
     let last : proposed_in (rs ++ pending) room ≡ proposed_in rs room = proposed_behind rs pending room none in (
       may.low,
-      subst (λ (k : KeptPart). MayFollow n i k (proposed_in (rs ++ pending) room) r) (sym kept)
-          (subst (λ (l : ℕ). MayFollow n i may.seat.node.kept l r) (sym last)
+      subst (λ (k : KeptPart). MayComeNext n i k (proposed_in (rs ++ pending) room) r) (sym kept)
+          (subst (λ (l : ℕ). MayComeNext n i may.seat.node.kept l r) (sym last)
           (may.goes (proposed_in rs room) (stand.unproposed room may.seat may.there))),
     )
 

@@ -5,7 +5,7 @@ use Rattle.paxos_core_world.specs.KeptPart.{KeptPart}
 use Rattle.acceptor_log_form.specs.declared.record.Record.{Record}
 use Rattle.acceptor_log_form.specs.Text.{room_of}
 use Rattle.acceptor_log_form.specs.Leaves.{kept_by_record, kept_in, proposed_by, proposed_in}
-use Rattle.acceptor_log_form.specs.Order.{AreInOrder, MayFollow}
+use Rattle.acceptor_log_form.specs.Order.{AreInOrder, MayComeNext}
 use Rattle.rooms_seat.specs.SeatState.{SeatState}
 use Rattle.farm_nodes_turn_order.specs.Ordered.{IsUnproposed}
 
@@ -33,7 +33,7 @@ pub record MayPut (seats : Seats) (n i rooms : ℕ) (r : Record) : Type 0 where
   pub seat : SeatState
   pub there : seats (room_of r) ≡ Some seat
   pub low : room_of r < rooms
-  pub goes : (last : ℕ) → IsUnproposed last seat → MayFollow n i seat.node.kept last r
+  pub goes : (last : ℕ) → IsUnproposed last seat → MayComeNext n i seat.node.kept last r
 
 -- What is pending: the records stand for what the seats keep, those that are pending are in order behind them, each is of a step that
 -- its seat may take next, and no two are of one room.

@@ -22,7 +22,7 @@ use Rattle.farm_nodes_turn_node.specs.Fours.{Four}
 use Rattle.farm_nodes_turn_node.specs.Texts.{Texts}
 use Rattle.farm_nodes_turn_node.specs.Which.{Which}
 use Rattle.farm_nodes_turn_node.specs.Which.TheVariants.{Constants, Expressions, Allocation, Order}
-use Rattle.farm_nodes_turn_node.specs.Turned.{LeavesRoom, StaysIn, OthersStay}
+use Rattle.farm_nodes_turn_node.specs.Turned.{LeavesSeats, StaysIn, OthersStay}
 use Rattle.farm_nodes_turn_node.specs.Turns.{AtPlace, OfFunction}
 use Rattle.farm_nodes_turn_node.proofs.Places.{found, mapped}
 use Rattle.farm_nodes_turn_node.specs.declared.halted.Halted.{Halted}
@@ -242,7 +242,7 @@ module _ {D T1 T2 T3 T4 : Type 0} (texts : Texts T1 T2 T3 T4) (is_honest : D →
 -- the seats of the function of the room that a turn was taken in
 pub keeps_at : {X A1 A2 A3 A4 A5 C1 C2 C3 C4 : Type 0} (f : X → Four (Parts A1 A2 C1) (Parts A2 A3 C2) (Parts A3 A4 C3) (Parts A4 A5 C4))
     (functions : List (Named A1)) (room : ℕ) (old new : List X) → function_of room < length functions
-    → OfFunction functions (function_of room) (λ function. AtPlace f (LeavesRoom function (pass_of room)) (function_of room) old new)
+    → OfFunction functions (function_of room) (λ function. AtPlace f (LeavesSeats function (pass_of room)) (function_of room) old new)
     → (s t : Four (Parts A1 A2 C1) (Parts A2 A3 C2) (Parts A3 A4 C3) (Parts A4 A5 C4))
     → slice_get (map f old) (function_of room) ≡ Some s → slice_get (map f new) (function_of room) ≡ Some t → Keep s t
 keeps_at f functions room old new low leaves s t e g =

@@ -89,7 +89,7 @@ module _ {T1 T2 T3 T4 : Type 0} where
     pub led : LeadsByLot word (words_of old pass) (words_of new pass)
 
 -- what a turn in the room of this pass leaves of a function's seats
-pub record LeavesRoom {A1 A2 A3 A4 A5 C1 C2 C3 C4 : Type 0} (function : A1) (pass : Which)
+pub record LeavesSeats {A1 A2 A3 A4 A5 C1 C2 C3 C4 : Type 0} (function : A1) (pass : Which)
     (old new : Four (Parts A1 A2 C1) (Parts A2 A3 C2) (Parts A3 A4 C3) (Parts A4 A5 C4)) : Type 0 where
   pub stays : StaysIn pass old new
   pub others : OthersStay pass old new

@@ -5,7 +5,7 @@ ghost use Rattle.farm_nodes_turn_room.specs.Served.{IsServed};
 ghost use Rattle.farm_nodes_turn_passes.specs.Numbers.{function_of, pass_of};
 ghost use Rattle.farm_nodes_turn_passes.specs.Pending.{HavePending};
 ghost use Rattle.farm_nodes_turn_function.specs.InRoom.{ForRoom, HaltsAmong, LogsTurnAmong, StandsInRoom};
-ghost use Rattle.farm_nodes_turn_function.specs.Turned.{LeavesRoom};
+ghost use Rattle.farm_nodes_turn_function.specs.Turned.{LeavesSeats};
 
 use crate::in_pass::play_in;
 use acceptor_log::Log;
@@ -36,7 +36,7 @@ pub fn turn_in<D: Disk, O: Oracles, H: Naming>(
     ensures others { (f : ℕ) → f ≢ function_of room → slice_get seats.new.items f ≡ slice_get seats.old.items f }
     ensures count { length seats.new.items ≡ length seats.old.items }
 
-    ensures leaves { ForRoom room (LeavesRoom function.now (pass_of room)) seats.old.items seats.new.items }
+    ensures leaves { ForRoom room (LeavesSeats function.now (pass_of room)) seats.old.items seats.new.items }
     ensures after { OnOk result (StandsInRoom room (pcg32 draws.old).0 seats.old.items seats.new.items) }
     ensures left { IfErr result (λ halt. HavePending seats.new.items room halt.pending) }
     ensures journal { LogsTurnAmong D.Disk log.old log.new room seats.old.items seats.new.items result }

@@ -18,7 +18,7 @@ use Rattle.farm_nodes_turn_node.specs.declared.halted.Halted.{Halted}
 use Rattle.farm_nodes_turn_function.specs.Fours.{Four, words_of}
 use Rattle.farm_nodes_turn_function.specs.Leaves.{Leave}
 use Rattle.farm_nodes_turn_node.specs.Held.{pending_in, AreUnproposed}
-use Rattle.farm_nodes_turn_function.specs.Told.{offer_in, IsToldAs}
+use Rattle.farm_nodes_turn_function.specs.Told.{last_offer_in, IsToldAs}
 use Rattle.farm_nodes_turn_function.specs.Texts.{Texts, IsOwnTextIn}
 use Rattle.farm_nodes_turn_function.specs.Turned.{OthersStay, StaysIn}
 use Rattle.farm_nodes_turn_node.specs.Stood.{TurnsBy}
@@ -64,27 +64,27 @@ module _ {T1 T2 T3 T4 : Type 0} (room : ℕ) (old new : List (Four T1 T2 T3 T4))
   module _ (texts : Texts T1 T2 T3 T4) (before upto : List Record) (stood : Leave texts old before) (stays : StaysIn (pass_of room) s t)
       (n i rooms : ℕ) (order : AreInOrder n i rooms upto) (begins : Begins before upto)
       (made : (words_of s (pass_of room)).node.kept.offered ≡ false → (words_of t (pass_of room)).node.kept.offered ≡ true
-      → IsToldAs (IsOwnTextIn texts (pass_of room) t) (offer_in upto room)) where
+      → IsToldAs (IsOwnTextIn texts (pass_of room) t) (last_offer_in upto room)) where
     carried : (m : ℕ) (u v : Four T1 T2 T3 T4) → slice_get old (function_of m) ≡ Some u → (words_of u (pass_of m)).node.kept.offered ≡ true
-        → ((text : List ℕ) → IsOwnTextIn texts (pass_of m) u text → IsOwnTextIn texts (pass_of m) v text) → IsToldAs (IsOwnTextIn texts (pass_of m) v) (offer_in upto m)
+        → ((text : List ℕ) → IsOwnTextIn texts (pass_of m) u text → IsOwnTextIn texts (pass_of m) v text) → IsToldAs (IsOwnTextIn texts (pass_of m) v) (last_offer_in upto m)
     carried m u v at had own =
         let is = stood.offers m u at had in
         (is.0, offer_stays n i rooms m before upto begins order (ap (λ (k : KeptPart). k.offered) (stood.rooms m u at) ∙ had) ∙ is.1, own is.0 is.2)
 
     here : (b : Bool) → (words_of s (pass_of room)).node.kept.offered ≡ b → (words_of t (pass_of room)).node.kept.offered ≡ true
-        → IsToldAs (IsOwnTextIn texts (pass_of room) t) (offer_in upto room)
+        → IsToldAs (IsOwnTextIn texts (pass_of room) t) (last_offer_in upto room)
     here true had now = carried room s t was had (own_stays texts (pass_of room) (pass_of room) s t stays stay)
     here false had now = made had now
 
     told_at : (m : ℕ) (u : Four T1 T2 T3 T4) → slice_get new (function_of m) ≡ Some u → (b d : Bool) → eqb m room ≡ b → eqb (function_of m) (function_of room) ≡ d
-        → (words_of u (pass_of m)).node.kept.offered ≡ true → IsToldAs (IsOwnTextIn texts (pass_of m) u) (offer_in upto m)
+        → (words_of u (pass_of m)).node.kept.offered ≡ true → IsToldAs (IsOwnTextIn texts (pass_of m) u) (last_offer_in upto m)
     told_at m u e true d p q now =
         let same : m ≡ room = eqb-true m room p in
         let now_is : t ≡ u = there m u (ap (λ (k : ℕ). function_of k) same) e in
         let has : (words_of t (pass_of room)).node.kept.offered ≡ true =
         ap (λ (v : Four T1 T2 T3 T4). (words_of v (pass_of room)).node.kept.offered) now_is ∙ (ap (λ (k : ℕ). (words_of u (pass_of k)).node.kept.offered) (sym same) ∙ now) in
-        subst (λ (k : ℕ). IsToldAs (IsOwnTextIn texts (pass_of k) u) (offer_in upto k)) (sym same)
-        (subst (λ (v : Four T1 T2 T3 T4). IsToldAs (IsOwnTextIn texts (pass_of room) v) (offer_in upto room)) now_is
+        subst (λ (k : ℕ). IsToldAs (IsOwnTextIn texts (pass_of k) u) (last_offer_in upto k)) (sym same)
+        (subst (λ (v : Four T1 T2 T3 T4). IsToldAs (IsOwnTextIn texts (pass_of room) v) (last_offer_in upto room)) now_is
         (here (words_of s (pass_of room)).node.kept.offered refl has))
     told_at m u e false true p q now =
         let f : function_of m ≡ function_of room = eqb-true (function_of m) (function_of room) q in
@@ -93,13 +93,13 @@ module _ {T1 T2 T3 T4 : Type 0} (room : ℕ) (old new : List (Four T1 T2 T3 T4))
         let had : (words_of s (pass_of m)).node.kept.offered ≡ true =
         ap (λ (w : SeatState). w.node.kept.offered) (sym (words_other (pass_of room) (pass_of m) s t differs stay))
         ∙ (ap (λ (v : Four T1 T2 T3 T4). (words_of v (pass_of m)).node.kept.offered) now_is ∙ now) in
-        subst (λ (v : Four T1 T2 T3 T4). IsToldAs (IsOwnTextIn texts (pass_of m) v) (offer_in upto m)) now_is
+        subst (λ (v : Four T1 T2 T3 T4). IsToldAs (IsOwnTextIn texts (pass_of m) v) (last_offer_in upto m)) now_is
         (carried m s t (ap (λ (k : ℕ). slice_get old k) f ∙ was) had (own_stays texts (pass_of room) (pass_of m) s t stays stay))
     told_at m u e false false p q now =
         carried m u u (sym (others (function_of m) (apart (function_of m) (function_of room) q)) ∙ e) now (λ text own. own)
 
     told_turned : (m : ℕ) (u : Four T1 T2 T3 T4) → slice_get new (function_of m) ≡ Some u → (words_of u (pass_of m)).node.kept.offered ≡ true
-        → IsToldAs (IsOwnTextIn texts (pass_of m) u) (offer_in upto m)
+        → IsToldAs (IsOwnTextIn texts (pass_of m) u) (last_offer_in upto m)
     told_turned m u e now = told_at m u e (eqb m room) (eqb (function_of m) (function_of room)) refl refl now
 
     -- and they leave what the seats keep

@@ -10,7 +10,7 @@ use Rattle.farm_nodes_turn_function.specs.Fault.TheVariants as faults
 use Rattle.farm_nodes_turn_function.specs.Fours.{four_of, fours_of, Four}
 use Rattle.farm_nodes_turn_function.specs.Numbers.{function_of, pass_of}
 use Rattle.farm_nodes_turn_function.specs.Offers.{ConstantsOffer, ExpressionsOffer, AllocationOffer, OrderOffer}
-use Rattle.farm_nodes_turn_function.specs.Turned.{IsTooLargeFor, LeavesRoom, StandsAfter}
+use Rattle.farm_nodes_turn_function.specs.Turned.{IsTooLargeFor, LeavesSeats, StandsAfter}
 use Rattle.farm_nodes_turn_function.specs.Turns.{AtPlace, OfFunction}
 use Rattle.farm_nodes_turn_node.specs.declared.farm_node.FarmNode.{FarmNode}
 use Rattle.farm_nodes_turn_node.specs.declared.turn.Turn.{Turn}
@@ -45,7 +45,7 @@ module _ {D O H : Type 0} {h : naming.Ghosts H} where
   -- Of the room's function other seats are as they were and all rooms keep their number, and an offer that the node makes has the input that
   -- is asked for. Where the node goes on, it has offered if it knew the input, and nothing is left to promise, to accept or to propose.
   pub record LeavesRoom (room : ℕ) (old new : FarmNode D O H h) : Type 0 where
-    pub function : old.halted ≡ None → WithFunction room (λ function. LeavesRoom function (pass_of room)) old new
+    pub function : old.halted ≡ None → WithFunction room (λ function. LeavesSeats function (pass_of room)) old new
     pub after : new.halted ≡ None → AtRoom room (StandsAfter (pass_of room) (pcg32 old.draws).0) old new
 
   module _ (disk : disks.Ghosts D) where

@@ -7,7 +7,7 @@ use Rattle.acceptor_log_form.specs.declared.record.Record.{Record}
 use Rattle.acceptor_log_form.specs.declared.record.Record.TheVariants.{Offered}
 use Rattle.acceptor_log_form.specs.Text.{room_of}
 use Rattle.acceptor_log_form.specs.Leaves.{kept_by_record, proposed_by}
-use Rattle.acceptor_log_form.specs.Order.{MayFollow}
+use Rattle.acceptor_log_form.specs.Order.{MayComeNext}
 use Rattle.acceptor_log.specs.declared.log.Log.{Log}
 use Rattle.acceptor_log.specs.Acknowledged.{acknowledged, IsReady}
 use Rattle.farm_nodes_turn_step.specs.SeatState.{SeatState}
@@ -21,7 +21,7 @@ use Rattle.farm_nodes_turn_step.proofs.Steps.{no_more}
 use Rattle.farm_nodes_turn_step.specs.JournalAdvances.{JournalAdvances}
 use Rattle.farm_nodes_turn_step.proofs.Told.{offer_own, offer_stays}
 use Rattle.farm_nodes_turn_offer.specs.Halted.{HasLeft, HasHaltCause, fault_by_journal}
-use Rattle.farm_nodes_turn_offer.specs.Told.{offer_by, offer_in, IsOwnText, TellNew}
+use Rattle.farm_nodes_turn_offer.specs.Told.{offer_by, last_offer_in, IsOwnText, TellNew}
 use Rattle.farm_nodes_turn_offer.specs.Offered.{PutsOffer}
 
 -- what a node's offer leaves of the room is what its record leaves of it
@@ -31,9 +31,9 @@ offer_kept room text x r s t is has =
 
 -- the offer's record goes on from what the node keeps, and it proposes as before
 pub offer_goes : {T : Type 0} (room : ℕ) (text : List ℕ) (r : Record) (s : SeatValue T) → r ≡ Offered room text → s.words.node.kept.offered ≡ false
-    → (last : ℕ) → MayFollow s.words.node.quorums.nodes s.words.node.me s.words.node.kept last r
+    → (last : ℕ) → MayComeNext s.words.node.quorums.nodes s.words.node.me s.words.node.kept last r
 offer_goes room text r s is first last =
-    subst (λ (q : Record). MayFollow s.words.node.quorums.nodes s.words.node.me s.words.node.kept last q) (sym is) first
+    subst (λ (q : Record). MayComeNext s.words.node.quorums.nodes s.words.node.me s.words.node.kept last q) (sym is) first
 
 pub offer_follows : {T : Type 0} (room : ℕ) (text : List ℕ) (x : T) (r : Record) (s t : SeatValue T) → r ≡ Offered room text → PutsOffer x s t → Follows room s.words t.words r
 offer_follows room text x r s t is has = record {
@@ -63,7 +63,7 @@ pub tell_offered : {T : Type 0} (IsText : List ℕ → T → Type 0) (room : ℕ
     → r ≡ Offered room text → PutsOffer x s t → IsText text x → upto ≡ before ++ r ∷ [] → TellNew (IsOwnText IsText t) room s.words t.words before upto
 tell_offered {T} IsText room text x r s t before upto is has told added rooms low ordered first now = (
   text,
-  ap (λ (l : List Record). offer_in l room) added ∙ (offer_own before r room (ap room_of is) ∙ ap (λ (q : Record). offer_by (offer_in before room) q) is),
+  ap (λ (l : List Record). last_offer_in l room) added ∙ (offer_own before r room (ap room_of is) ∙ ap (λ (q : Record). offer_by (last_offer_in before room) q) is),
   (x, ap (λ (u : SeatState). offer_of t u.node.me) has.words ∙ has.own, told),
 )
 

@@ -21,7 +21,7 @@ use Rattle.acceptor_log_form.specs.declared.record.Record.{Record}
 use Rattle.acceptor_log_form.specs.declared.record.Record.TheVariants.{Offered, Started, Proposed, Promised, Accepted, Summary}
 use Rattle.acceptor_log_form.specs.Text.{room_of}
 use Rattle.acceptor_log_form.specs.Leaves.{kept_by_record, kept_in, proposed_by, proposed_in}
-use Rattle.acceptor_log_form.specs.Order.{MayFollow, MayFollow, AreInOrder}
+use Rattle.acceptor_log_form.specs.Order.{MayComeNext, MayFollow, AreInOrder}
 use Rattle.rooms_seat.proofs.Acts.{may_promise, vote_seen}
 use Rattle.rooms_seat.specs.Act.{Act}
 use Rattle.rooms_seat.specs.Act.TheVariants as act
@@ -66,7 +66,7 @@ push_in_order n i rooms rs r order follows k q at =
 
 -- ---- a proposal's ballot is not above the one started last
 
-below_by : (n i : ℕ) (k : KeptPart) (last : ℕ) (r : Record) → MayFollow n i k last r → last ≤ k.started → proposed_by last r ≤ (kept_by_record k r).started
+below_by : (n i : ℕ) (k : KeptPart) (last : ℕ) (r : Record) → MayComeNext n i k last r → last ≤ k.started → proposed_by last r ≤ (kept_by_record k r).started
 below_by n i k last (Offered room offer) goes low = low
 below_by n i k last (Started room b) goes low = let up : k.started < b = goes.1 in omega (arith, up, low)
 below_by n i k last (Proposed room b v) goes low = let is : b ≡ k.started = goes.1 in omega (arith, is)
@@ -81,8 +81,8 @@ below_push : (n i rooms : ℕ) (rs : List Record) (r : Record) (room : ℕ) → 
 below_push n i rooms rs r room follows low =
     elim (cases_eq (room_of r) room) [
       | inl own ↦
-          let goes : MayFollow n i (kept_in rs room) (proposed_in rs room) r =
-          subst (λ (m : ℕ). MayFollow n i (kept_in rs m) (proposed_in rs m) r) own follows.1 in
+          let goes : MayComeNext n i (kept_in rs room) (proposed_in rs room) r =
+          subst (λ (m : ℕ). MayComeNext n i (kept_in rs m) (proposed_in rs m) r) own follows.1 in
           subst (λ (l : ℕ). l ≤ (kept_in (rs ++ r ∷ []) room).started) (sym (proposed_own rs r room own))
           (subst (λ (k : KeptPart). proposed_by (proposed_in rs room) r ≤ k.started) (sym (kept_own rs r room own))
           (below_by n i (kept_in rs room) (proposed_in rs room) r goes low))
@@ -140,7 +140,7 @@ above_max a b c above = let low : a ≤ max a b = le-max_left a b in omega (arit
 
 module _ (room : ℕ) (s : SeatState) (bounds : IsBounded s) (last : ℕ) (fresh : IsUnproposed last s) where
   abbrev Goes : Step → Type 0
-  Goes x = MayFollow s.node.quorums.nodes s.node.me s.node.kept last (record_of room x)
+  Goes x = MayComeNext s.node.quorums.nodes s.node.me s.node.kept last (record_of room x)
 
   start_goes : (b : ℕ) → next_start s.node ≡ Some b → Goes (step.Start b)
   start_goes b e =
@@ -270,7 +270,7 @@ pub record Follows (room : ℕ) (s t : SeatState) (r : Record) : Type 0 where
   pub step : kept_by_record s.node.kept r ≡ t.node.kept
   pub me : t.node.me ≡ s.node.me
   pub quorums : t.node.quorums ≡ s.node.quorums
-  pub goes : (last : ℕ) → IsUnproposed last s → MayFollow s.node.quorums.nodes s.node.me s.node.kept last r
+  pub goes : (last : ℕ) → IsUnproposed last s → MayComeNext s.node.quorums.nodes s.node.me s.node.kept last r
   pub leaves : (last : ℕ) → IsUnproposed last s → last ≤ s.node.kept.started → IsUnproposed (proposed_by last r) t
 
 pub step_follows : (room : ℕ) (s t : SeatState) (a : Act) (x : Step) (r : Record) → IsBounded s → IsAmong s.node.quorums.nodes a → Some x ≡ would s a → r ≡ record_of room x → Acted a s t
@@ -280,19 +280,19 @@ step_follows room s t a x r bounds among told is acted step = record {
   step = step;
   me = acted.me;
   quorums = acted.quorums;
-  goes = λ last fresh. subst (λ (q : Record). MayFollow s.node.quorums.nodes s.node.me s.node.kept last q) (sym is) (step_goes room s bounds last fresh a x among told);
+  goes = λ last fresh. subst (λ (q : Record). MayComeNext s.node.quorums.nodes s.node.me s.node.kept last q) (sym is) (step_goes room s bounds last fresh a x among told);
   leaves = λ last fresh low. subst (λ (q : Record). IsUnproposed (proposed_by last q) t) (sym is) (step_leaves room s t a x last bounds among told acted fresh low);
 }
 
 -- with the record the records are in order,
 pub more_in_order : (rooms room : ℕ) (s : SeatState) (rs : List Record) (r : Record) → room < rooms → room_of r ≡ room
-    → ((last : ℕ) → IsUnproposed last s → MayFollow s.node.quorums.nodes s.node.me s.node.kept last r)
+    → ((last : ℕ) → IsUnproposed last s → MayComeNext s.node.quorums.nodes s.node.me s.node.kept last r)
     → AreOrdered rooms room s rs → AreInOrder s.node.quorums.nodes s.node.me rooms (rs ++ r ∷ [])
 more_in_order rooms room s rs r low own goes ordered =
     push_in_order s.node.quorums.nodes s.node.me rooms rs r ordered.in_order (
       subst (λ (m : ℕ). m < rooms) (sym own) low,
-      subst (λ (m : ℕ). MayFollow s.node.quorums.nodes s.node.me (kept_in rs m) (proposed_in rs m) r) (sym own)
-          (subst (λ (k : KeptPart). MayFollow s.node.quorums.nodes s.node.me k (proposed_in rs room) r) (sym ordered.kept)
+      subst (λ (m : ℕ). MayComeNext s.node.quorums.nodes s.node.me (kept_in rs m) (proposed_in rs m) r) (sym own)
+          (subst (λ (k : KeptPart). MayComeNext s.node.quorums.nodes s.node.me k (proposed_in rs room) r) (sym ordered.kept)
           (goes (proposed_in rs room) ordered.unproposed)),
     )
 

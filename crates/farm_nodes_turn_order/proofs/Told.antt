@@ -7,7 +7,7 @@ use Rattle.acceptor_log_form.specs.declared.record.Record.{Record}
 use Rattle.acceptor_log_form.specs.declared.record.Record.TheVariants.{Offered, Started, Proposed, Promised, Accepted, Summary}
 use Rattle.acceptor_log_form.specs.Text.{room_of}
 use Rattle.acceptor_log_form.specs.Leaves.{left_from, kept_by_record, kept_in, proposed_in}
-use Rattle.acceptor_log_form.specs.Order.{AreInOrder, MayFollow, MayFollow}
+use Rattle.acceptor_log_form.specs.Order.{AreInOrder, MayComeNext, MayFollow}
 use Rattle.acceptor_log_form.specs.Lists.{Begins}
 use Rattle.paxos_core_node_steps.specs.declared.step.Step.{Step}
 use Rattle.paxos_core_node_steps.specs.declared.step.Step.TheVariants as step
@@ -63,7 +63,7 @@ told_offered rs m text e = some_from rs nothing_kept None m refl ∙ ap (λ (o :
 
 -- ---- records in order have no other behind it
 
-stays_by : (n i p : ℕ) (k : KeptPart) (o : Option (List ℕ)) (r : Record) → MayFollow n i k p r → k.offered ≡ true → (offer_by o r ≡ o) × ((kept_by_record k r).offered ≡ true)
+stays_by : (n i p : ℕ) (k : KeptPart) (o : Option (List ℕ)) (r : Record) → MayComeNext n i k p r → k.offered ≡ true → (offer_by o r ≡ o) × ((kept_by_record k r).offered ≡ true)
 stays_by n i p k o (Offered room text) goes is = let bad : true ≡ false = sym is ∙ goes in absurd (cc)
 stays_by n i p k o (Started room b) goes is = (refl, is)
 stays_by n i p k o (Proposed room b v) goes is = (refl, is)
@@ -82,11 +82,11 @@ take_length (x ∷ old) more = ap (λ (l : List Record). x ∷ l) (take_length o
 follows : (n i rooms : ℕ) (old more : List Record) (r : Record) → AreInOrder n i rooms (old ++ r ∷ more) → MayFollow n i rooms old r
 follows n i rooms old more r order = subst (λ (l : List Record). MayFollow n i rooms l r) (take_length old (r ∷ more)) (order (length old) r (at_length old more r))
 
-one_on : (n i : ℕ) (old : List Record) (r : Record) (m : ℕ) → MayFollow n i (kept_in old (room_of r)) (proposed_in old (room_of r)) r → (kept_in old m).offered ≡ true
+one_on : (n i : ℕ) (old : List Record) (r : Record) (m : ℕ) → MayComeNext n i (kept_in old (room_of r)) (proposed_in old (room_of r)) r → (kept_in old m).offered ≡ true
     → (last_offer_in (old ++ r ∷ []) m ≡ last_offer_in old m) × ((kept_in (old ++ r ∷ []) m).offered ≡ true)
 one_on n i old r m goes is = elim (cases_eq (room_of r) m) [
   | inl own ↦
-      let here : MayFollow n i (kept_in old m) (proposed_in old m) r = subst (λ (k : ℕ). MayFollow n i (kept_in old k) (proposed_in old k) r) own goes in
+      let here : MayComeNext n i (kept_in old m) (proposed_in old m) r = subst (λ (k : ℕ). MayComeNext n i (kept_in old k) (proposed_in old k) r) own goes in
       let stays = stays_by n i (proposed_in old m) (kept_in old m) (last_offer_in old m) r here is in
       (offer_own old r m own ∙ stays.0, ap (λ (k : KeptPart). k.offered) (kept_own old r m own) ∙ stays.1)
   | inr other ↦ (offer_other old r m other, ap (λ (k : KeptPart). k.offered) (kept_other old r m other) ∙ is)

@@ -5,7 +5,7 @@ use Rattle.acceptor_log_form.specs.declared.record.Record.{Record}
 use Rattle.acceptor_log_form.specs.Leaves.{kept_in}
 use Rattle.farm_nodes_turn_offer.specs.FarmNodesTurnStepPending.{Pending}
 use Rattle.farm_nodes_turn_offer.specs.Halted.{left_over}
-use Rattle.farm_nodes_turn_offer.specs.Told.{offer_in, IsToldAs}
+use Rattle.farm_nodes_turn_offer.specs.Told.{last_offer_in, IsToldAs}
 use Rattle.farm_nodes_turn_offer.specs.Pending.{IsAsked, IsPendingOn, MayPendOn}
 use Rattle.farm_nodes_turn_passes.specs.Fours.{Four, words_of}
 use Rattle.farm_nodes_turn_passes.specs.Texts.{Texts, IsOwnTextIn}
@@ -21,7 +21,7 @@ module _ {X1 X2 X3 X4 : Type 0} where
         → kept_in rs m ≡ (words_of s (pass_of m)).node.kept
     pub no_others : (m : ℕ) → length seats ≤ function_of m → kept_in rs m ≡ nothing_kept
     pub offers : (m : ℕ) (s : Four X1 X2 X3 X4) → slice_get seats (function_of m) ≡ Some s
-        → (words_of s (pass_of m)).node.kept.offered ≡ true → IsToldAs (IsOwnTextIn texts (pass_of m) s) (offer_in rs m)
+        → (words_of s (pass_of m)).node.kept.offered ≡ true → IsToldAs (IsOwnTextIn texts (pass_of m) s) (last_offer_in rs m)
 
   -- the record of what a halted node has not done in the room, if there is one
   abbrev pub left_in : Option (Four X1 X2 X3 X4) → ℕ → Option Pending → List Record

@@ -8,7 +8,7 @@ use Rattle.acceptor_log_form.specs.declared.header.Header.{Header}
 use Rattle.acceptor_log_form.specs.declared.record.Record.{Record}
 use Rattle.acceptor_log_form.specs.Text.{room_of, StandsFor}
 use Rattle.acceptor_log_form.specs.Leaves.{kept_by_record, kept_in, proposed_in}
-use Rattle.acceptor_log_form.specs.Order.{AreInOrder, MayFollow}
+use Rattle.acceptor_log_form.specs.Order.{AreInOrder, MayComeNext}
 use Rattle.acceptor_log_form.specs.Lists.{Begins, Between}
 use Rattle.acceptor_log_writing.specs.OneOf.{Either}
 use Rattle.acceptor_log_form.proofs.Between.{between-two}
@@ -98,7 +98,7 @@ module _ {D : Type 0} (seen : D → List ℕ) (may_leave : D → List ℕ → Ty
 
   -- one record may have been put down
   pub perhaps : (old new : Log D) (room : ℕ) (s : SeatState) (r : Record) → room_of r ≡ room
-      → ((last : ℕ) → IsUnproposed last s → MayFollow s.node.quorums.nodes s.node.me s.node.kept last r)
+      → ((last : ℕ) → IsUnproposed last s → MayComeNext s.node.quorums.nodes s.node.me s.node.kept last r)
       → ((c : List ℕ) → may_leave new.disk c → moment old.disk ≤ moment new.disk → left_since new.disk (moment old.disk) c)
       → LeavesOnly moment left_since old.disk new.disk (Between old.header (acknowledged seen old) (acknowledged seen old ++ r ∷ []))
       → Goes old new room s s (acknowledged seen old) (r ∷ [])

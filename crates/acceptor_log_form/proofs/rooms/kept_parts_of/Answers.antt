@@ -7,24 +7,24 @@ use Rattle.paxos_core_world.specs.KeptPart.{KeptPart, nothing_kept}
 use Rattle.acceptor_log_form.specs.declared.record.Record.{Record}
 use Rattle.acceptor_log_form.specs.Text.{room_of}
 use Rattle.acceptor_log_form.specs.Leaves.{kept_by_record, proposed_by, kept_in, proposed_in}
-use Rattle.acceptor_log_form.specs.Order.{MayFollow, MayFollow, AreInOrder}
+use Rattle.acceptor_log_form.specs.Order.{MayComeNext, MayFollow, AreInOrder}
 use Rattle.acceptor_log_form.proofs.LeavesLemmas.{shows_more, read_is, each_more}
 use Rattle.acceptor_log_form.proofs.rooms.kept_parts_of.Goals as goal
 
 -- a record of a room that there is, going on from what was read of it
-goes_on_here : (n i rooms : ℕ) (rs : List Record) (at : ℕ) (r : Record) (room : ℕ) (kept : KeptPart) (proposed : ℕ) → room ≡ room_of r → room < rooms → kept ≡ kept_in (take at rs) room → proposed ≡ proposed_in (take at rs) room → MayFollow n i kept proposed r → MayFollow n i rooms (take at rs) r
+goes_on_here : (n i rooms : ℕ) (rs : List Record) (at : ℕ) (r : Record) (room : ℕ) (kept : KeptPart) (proposed : ℕ) → room ≡ room_of r → room < rooms → kept ≡ kept_in (take at rs) room → proposed ≡ proposed_in (take at rs) room → MayComeNext n i kept proposed r → MayFollow n i rooms (take at rs) r
 goes_on_here n i rooms rs at r room kept proposed room_is below kept_is proposed_is goes =
-    let own : MayFollow n i (kept_in (take at rs) (room_of r)) (proposed_in (take at rs) (room_of r)) r =
-    subst (λ m. MayFollow n i (kept_in (take at rs) m) (proposed_in (take at rs) m) r) room_is
-    (subst (λ k. MayFollow n i k (proposed_in (take at rs) room) r) kept_is (subst (λ b. MayFollow n i kept b r) proposed_is goes)) in
+    let own : MayComeNext n i (kept_in (take at rs) (room_of r)) (proposed_in (take at rs) (room_of r)) r =
+    subst (λ m. MayComeNext n i (kept_in (take at rs) m) (proposed_in (take at rs) m) r) room_is
+    (subst (λ k. MayComeNext n i k (proposed_in (take at rs) room) r) kept_is (subst (λ b. MayComeNext n i kept b r) proposed_is goes)) in
     (subst (λ m. m < rooms) room_is below, own)
 
 -- one that does not go on from it breaks the order
-out_of_order : (n i rooms : ℕ) (rs : List Record) (at : ℕ) (r : Record) (room : ℕ) (kept : KeptPart) (proposed : ℕ) → slice_get rs at ≡ Some r → room ≡ room_of r → kept ≡ kept_in (take at rs) room → proposed ≡ proposed_in (take at rs) room → (MayFollow n i kept proposed r → ⊥) → AreInOrder n i rooms rs → ⊥
+out_of_order : (n i rooms : ℕ) (rs : List Record) (at : ℕ) (r : Record) (room : ℕ) (kept : KeptPart) (proposed : ℕ) → slice_get rs at ≡ Some r → room ≡ room_of r → kept ≡ kept_in (take at rs) room → proposed ≡ proposed_in (take at rs) room → (MayComeNext n i kept proposed r → ⊥) → AreInOrder n i rooms rs → ⊥
 out_of_order n i rooms rs at r room kept proposed got room_is kept_is proposed_is stops order =
     let may = order at r got in
-    stops (subst (λ b. MayFollow n i kept b r) (sym proposed_is) (subst (λ k. MayFollow n i k (proposed_in (take at rs) room) r) (sym kept_is)
-    (subst (λ m. MayFollow n i (kept_in (take at rs) m) (proposed_in (take at rs) m) r) (sym room_is) may.1)))
+    stops (subst (λ b. MayComeNext n i kept b r) (sym proposed_is) (subst (λ k. MayComeNext n i k (proposed_in (take at rs) room) r) (sym kept_is)
+    (subst (λ m. MayComeNext n i (kept_in (take at rs) m) (proposed_in (take at rs) m) r) (sym room_is) may.1)))
 
 pub returns-then-room-len-clause-refused : goal.returns-then-room-len-clause-refused
 returns-then-room-len-clause-refused c memory = (

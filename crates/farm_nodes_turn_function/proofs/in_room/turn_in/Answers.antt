@@ -9,7 +9,7 @@ use Rattle.farm_nodes_turn_passes.specs.Pending.{HasPending, HavePending}
 use Rattle.farm_nodes_turn_room.specs.Played.{Played}
 use Rattle.farm_nodes_turn_passes.specs.Fours.{four_of, words_of}
 use Rattle.farm_nodes_turn_passes.specs.Texts.{pass_texts, IsOwnTextIn}
-use Rattle.farm_nodes_turn_function.specs.Turned.{IsTooLargeFor, LeavesRoom, StandsAfter}
+use Rattle.farm_nodes_turn_function.specs.Turned.{IsTooLargeFor, LeavesSeats, StandsAfter}
 use Rattle.farm_nodes_turn_function.specs.Turns.{AtPlace, HaltsIn, PlayedIn}
 use Rattle.farm_nodes_turn_function.proofs.Inputs.{if_err, on_ok}
 use Rattle.farm_nodes_turn_function.proofs.Pending.{with_all}
@@ -25,9 +25,9 @@ returns-clause-count g c = length-set c.args.seats.now.items c.from.result c.pla
 
 pub returns-clause-leaves : goal.returns-clause-leaves
 returns-clause-leaves g c =
-    place_set four_of (LeavesRoom c.args.function.now (pass_of c.args.room)) c.args.seats.now.items c.from.result (function_of c.args.room)
+    place_set four_of (LeavesSeats c.args.function.now (pass_of c.args.room)) c.args.seats.now.items c.from.result (function_of c.args.room)
     c.in-Some.four.now c.play_in.new.seats c.from.ensures c.in-Some.ensures.value
-    (subst (λ (p : Which). LeavesRoom c.args.function.now p (four_of c.in-Some.four.now) (four_of c.play_in.new.seats)) c.of_room.ensures
+    (subst (λ (p : Which). LeavesSeats c.args.function.now p (four_of c.in-Some.four.now) (four_of c.play_in.new.seats)) c.of_room.ensures
     (record { stays = c.play_in.ensures.stays; others = c.play_in.ensures.others; made = c.play_in.ensures.made }))
 
 pub returns-clause-after : goal.returns-clause-after

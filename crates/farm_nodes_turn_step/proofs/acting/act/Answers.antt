@@ -2,7 +2,7 @@
 use Rattle.std.proofs.Common.{◌≡◌, List, ap, ◌∙◌, sym, subst}
 use Rattle.acceptor_log_form.specs.declared.record.Record.{Record}
 use Rattle.acceptor_log_form.specs.Text.{room_of}
-use Rattle.acceptor_log_form.specs.Order.{MayFollow}
+use Rattle.acceptor_log_form.specs.Order.{MayComeNext}
 use Rattle.acceptor_log.specs.Acknowledged.{acknowledged}
 use Rattle.farm_nodes_turn_step.specs.JournalAdvances.{JournalAdvances}
 use Rattle.farm_nodes_turn_order.proofs.Orders.{step_follows, step_goes}
@@ -41,7 +41,7 @@ returns-clause-journal g c honest going =
       subst (λ (p : List Record). JournalAdvances disk.seen disk.may_leave disk.moment disk.left_since old new c.args.room s s (acknowledged disk.seen old) p) (sym pending)
           (perhaps disk.seen disk.may_leave disk.moment disk.left_since old new c.args.room s r
           (ap room_of c.record_of.ensures ∙ room_of_step c.args.room c.in-Some.step)
-          (λ last fresh. subst (λ (q : Record). MayFollow s.node.quorums.nodes s.node.me s.node.kept last q) (sym c.record_of.ensures)
+          (λ last fresh. subst (λ (q : Record). MayComeNext s.node.quorums.nodes s.node.me s.node.kept last q) (sym c.record_of.ensures)
           (step_goes c.args.room s c.bounds.ensures last fresh c.args.act c.in-Some.step c.requires.among c.in-Some.ensures))
           (λ b left later. g.met.D.Disk.counts_now new.disk (disk.moment old.disk) b (c.append.ensures.honest.1 honest) later left)
           (c.append.ensures.any_moment honest going)),

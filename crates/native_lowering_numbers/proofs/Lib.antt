@@ -1,0 +1,4 @@
+pub mod Wrapped
+pub mod Asked
+pub mod Shifts
+pub mod Quotients

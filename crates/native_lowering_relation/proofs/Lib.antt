@@ -1,0 +1,5 @@
+pub mod Agreeing
+pub mod Standing
+pub mod Knowing
+pub mod Kept
+pub mod Waiting

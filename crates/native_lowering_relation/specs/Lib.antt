@@ -1,0 +1,5 @@
+pub mod Agreeing
+pub mod Standing
+pub mod Knowing
+pub mod Waiting
+pub mod Related
