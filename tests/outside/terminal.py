@@ -7,7 +7,7 @@
     tests/outside/terminal.py --program PATH   this program
 
 Shown are: the lines of a program that prints and then loops, while it loops; a build's progress, and nothing of it behind; excerpts for
-faults at the first and the last byte, behind tabs, in a line of 10 MB and behind bytes that are no ASCII; hints at eleven texts that a C
+faults at the first and the last byte, behind tabs, in a line of 10 MB and behind bytes that are no ASCII; hints at seventeen texts that a C
 programmer may write first; what is said behind a bound, a folder that another build has, and journals of another build; and the line of
 journals that were migrated. The rows of the screen are made here from the text that is to be shown (a row that is full goes on in the
 next, a tab goes to the next multiple of eight). It prints a line for each case that is wrong, and counts. Its status is 1 where one was."""
@@ -42,7 +42,13 @@ FIRST = (
     ("a type of one's own", b"typedef int word;\n" + MAIN, b"typedef", "`typedef`: not in this language: there are no types of one's own"),
     ("a comma behind the last word", b"int a[4] = {4,};\n" + MAIN, b"};", "`}`: no comma stands behind the last initial word"),
     ("no semicolon", b"int f(int x) {\n  return x + x\n}\n" + MAIN, b"}\nint", "`}` after `x + x`: is `;` missing?"),
-    ("a character that is not closed", b"int putchar(int);\nint main(void){\n  putchar('a);\n  return 0;\n}\n", b"'a)", None),
+    ("a character that is not closed", b"int putchar(int);\nint main(void){\n  putchar('a);\n  return 0;\n}\n", b"'a)", "a character constant is one character in quotes, or `\\n`, `\\t`, `\\0`, `\\\\`, `\\'`, `\\\"`"),
+    ("no semicolon on a line", b"int main(void) {\n  int x = 1 return x;\n}\n", b"return x", "`return` after `int x = 1`: is `;` missing?"),
+    ("a parenthesis left open", b"int main(void) {\n  if (1 {\n    return 1;\n  }\n  return 0;\n}\n", b"{\n    r", "`{` after `if (1`: is `)` missing?"),
+    ("a condition without parentheses", b"int main(void) {\n  int x = 1;\n  while x < 3 {\n    x++;\n  }\n  return 0;\n}\n", b"x < 3", "`x`: parentheses are missing: `if (x < 3)`, `while (x < 3)`"),
+    ("an assignment that is meant to compare", b"int main(void) {\n  int x = 1;\n  if (x = 4) {\n    return 1;\n  }\n  return 0;\n}\n", b"= 4", "`=`: an assignment: to compare, write `==`"),
+    ("a name that is misspelt", b"int main(void) {\n  int counter = 1;\n  return conter;\n}\n", b"conter", "`conter` is not declared: is `counter` meant?"),
+    ("too many arguments", b"int f(int x) {\n  return x;\n}\nint main(void) {\n  int y;\n  y = f(1, 2);\n  return y;\n}\n", b"f(1", "too many arguments to `f`: 1 expected, 2 given"),
     ("a mark of the byte order", b"\xef\xbb\xbf" + MAIN, b"\xef", "a byte order mark stands in front: save the text without it"),
 )
 PLACES = (

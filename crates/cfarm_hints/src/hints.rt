@@ -2,8 +2,9 @@
 
 ghost use Rattle.std.specs.Prelude.{◌≡◌, ◌&&◌, [], false, string_bytes};
 
+use crate::explaining::explanation;
 use cfarm_output::Paced;
-use cfarm_run::{CommandError, TextError, explanation, sentence_of};
+use cfarm_run::{CommandError, TextError, sentence_of};
 use lang_base::Shown;
 use std::alloc::Global;
 use std::io::Write;

@@ -1,7 +1,7 @@
 //! A line of a text, with a mark below.
 
-use crate::place::Place;
 use crate::words::bytes_between;
+use cfarm_run::Place;
 use std::alloc::{AllocError, Global};
 
 /// How many bytes of a line are shown.

@@ -1,6 +1,6 @@
 //! What a text declares, as far as hints need it: a name behind a type.
 
-use crate::hints::is_type;
+use crate::syntax::is_type;
 use crate::words::token_from;
 
 /// A name that is declared: where it stands, and in how many blocks. A parameter counts as one of its function's body.

@@ -2,12 +2,12 @@
 
 use crate::before::{Before, tokens_before};
 use crate::excerpt::write_excerpt;
-use crate::hints::{CHARACTERS, hint, hint_at_byte};
 use crate::missing::{missing_behind, missing_mark};
 use crate::names::{hint_at_count, hint_at_name, hint_at_second};
 use crate::numbers::{hint_at_number, limit_at};
-use crate::place::place_of;
+use crate::syntax::{CHARACTERS, hint, hint_at_byte};
 use crate::words::{bytes_between, first_part, token_from, word_of};
+use cfarm_run::place_of;
 use std::alloc::{AllocError, Global};
 
 /// How many bytes of a statement are shown.

@@ -1,7 +1,7 @@
 //! What is missing in front of a token that does not fit.
 
 use crate::before::Before;
-use crate::hints::{is_keyword, is_type, is_word};
+use crate::syntax::{is_keyword, is_type, is_word};
 
 /// Whether a statement can end behind what stands in front.
 fn can_end(before: &Before<'_>) -> bool {

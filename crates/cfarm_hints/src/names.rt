@@ -1,8 +1,8 @@
 //! Hints at names: what is meant by one that is not declared, where one stands already, how many arguments there are.
 
 use crate::declared::{declared_before, declared_behind, near_name, parts_behind};
-use crate::hints::said;
-use crate::place::place_of;
+use crate::syntax::said;
+use cfarm_run::place_of;
 use std::alloc::{AllocError, Global};
 
 /// Names of C's libraries, and what to write.

@@ -1,5 +1,6 @@
 //! Hints at numbers, and at what there is too much of.
 
+use crate::before::tokens_before;
 use crate::words::token_from;
 
 /// The largest word, in decimal.
@@ -38,7 +39,7 @@ pub(crate) fn hint_at_number(found: &str) -> Option<&'static str> {
 /// Which limit the name at this place passes.
 pub(crate) fn limit_at(text: &[u8], at: usize, found: &str) -> &'static str {
     let behind = token_from(text, at.saturating_add(found.len()));
-    let before = crate::before::tokens_before(text, at);
+    let before = tokens_before(text, at);
     if found.len() > 255 {
         "a name has at most 255 letters"
     } else if behind.word == "[" {
