@@ -1,6 +1,6 @@
 -- Divisions: the tests before one tell exactly where the machine's table has no answer, and else the instruction gives both of its.
-use Rattle.std.proofs.Common.{◌≡◌, ◌≢◌, ℕ, zero, suc, ◌+◌, ◌-◌, ◌/◌, ◌%◌, ◌^◌, ◌<◌, ◌≤◌, Bool, true, false, not, ◌||◌, [], ◌∷◌, Option, Some, None, refl, sym, ap, subst, ◌∙◌, ℤ, pos, negsuc, arith}
-use Rattle.std.specs.Prelude.{nat_eq, nat_lt, if◌then◌else◌, int_div, int_rem, bit_or, bit_xor, IsTrue}
+use Rattle.std.proofs.Common.{◌≡◌, ◌≢◌, ℕ, zero, suc, ◌+◌, ◌-◌, ◌/◌, ◌%◌, ◌^◌, ◌<◌, true, false, not, ◌||◌, [], ◌∷◌, Some, None, refl, sym, ap, ◌∙◌, ℤ, pos, negsuc, arith}
+use Rattle.std.specs.Prelude.{nat_eq, if◌then◌else◌, int_div, int_rem, bit_or, bit_xor}
 use native.Mathlib.Nat.{div-lt_self}
 use Rattle.std.proofs.lemmas.Bool.{false≢true, eqb-true, eq-eqb}
 use Rattle.std.proofs.lemmas.Int.{ints}

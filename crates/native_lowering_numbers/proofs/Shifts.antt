@@ -1,9 +1,8 @@
 -- Shifts: a count below 32 has an answer, which is the instruction's, and no other has one.
-use Rattle.std.proofs.Common.{◌≡◌, ℕ, ◌/◌, ◌^◌, ◌<◌, ◌≤◌, Bool, true, false, [], ◌∷◌, Option, Some, None, refl, sym, ap, ◌∙◌, pos, ◌*ℤ◌, arith}
+use Rattle.std.proofs.Common.{◌≡◌, ℕ, ◌^◌, ◌<◌, Bool, true, false, [], ◌∷◌, Option, Some, None, refl, sym, ap, pos}
 use Rattle.std.specs.Prelude.{nat_le, if◌then◌else◌}
 use Rattle.std.proofs.lemmas.Bool.{false≢true}
 use Rattle.ints.specs.MachineTable.{machine_table}
-use Rattle.ints.specs.Words.{signed, wrapped, floor_of}
 use Rattle.ints.specs.declared.operators.Op.TheVariants as op
 use Rattle.ints.proofs.Wrapping.{wrapped-mul_left}
 use Rattle.x86_syntax.specs.declared.condition.Condition.TheVariants.{AboveOrEqual}

@@ -1,10 +1,10 @@
 -- What is known stays so.
-use Rattle.std.proofs.Common.{◌≡◌, ◌≢◌, ℕ, zero, suc, ◌<◌, Bool, true, false, not, List, [], ◌∷◌, length, replicate, Option, Some, None, refl, sym, ap, subst, ◌∙◌, arith}
-use Rattle.std.specs.Prelude.{if◌then◌else◌, nat_eq, slice_index, slice_index_or, slice_set}
-use Rattle.std.proofs.lemmas.Bool.{false≢true, eqb-true, eq-eqb}
+use Rattle.std.proofs.Common.{◌≡◌, ◌≢◌, ℕ, zero, suc, Bool, true, false, not, List, [], ◌∷◌, length, replicate, Option, Some, None, refl, sym, ap, ◌∙◌, arith}
+use Rattle.std.specs.Prelude.{if◌then◌else◌, nat_eq, slice_index_or, slice_set}
+use Rattle.std.proofs.lemmas.Bool.{false≢true, eq-eqb}
 use Rattle.std.proofs.lemmas.List.{get_or-set_other}
 use Rattle.x86_syntax.specs.declared.condition.Condition.{Condition}
-use Rattle.native_lowering_definition.specs.Facts.{Facts, no_facts, known, unless, set, left, without_flag}
+use Rattle.native_lowering_definition.specs.Facts.{Facts, no_facts, unless, set, left, without_flag}
 use Rattle.native_lowering_relation.specs.Knowing.{Knows, KnowsEach, Answers, IsSo}
 
 -- ---- words

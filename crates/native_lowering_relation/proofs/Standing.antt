@@ -1,9 +1,9 @@
 -- The cells of a frame on the stack: what they hold, what is kept in them, what is taken off.
-use Rattle.std.proofs.Common.{◌≡◌, ℕ, zero, suc, ◌+◌, ◌<◌, List, [], ◌∷◌, length, Option, Some, None, refl, sym, ap, subst, ◌∙◌, arith}
-use Rattle.std.specs.Prelude.{slice_get, slice_index, slice_set}
+use Rattle.std.proofs.Common.{◌≡◌, ℕ, zero, suc, ◌+◌, ◌<◌, List, [], ◌∷◌, length, Option, Some, refl, ap, ◌∙◌, arith}
+use Rattle.std.specs.Prelude.{slice_index, slice_set}
 use Rattle.std.specs.Option.{option_map}
 use Rattle.std.proofs.lemmas.List.{length-set}
-use Rattle.x86_state.specs.Cells.{word_of, word_at, kept, shrunk}
+use Rattle.x86_state.specs.Cells.{word_at, kept, shrunk}
 use Rattle.x86_state.specs.declared.cell.Cell.{Cell}
 use Rattle.x86_state.specs.declared.cell.Cell.TheVariants.{Word, Back}
 use Rattle.x86_state.specs.declared.cell.Spot.{Spot}

@@ -1,16 +1,16 @@
 -- Callers wait as before where r4 to r7 are as before.
-use Rattle.std.proofs.Common.{◌≡◌, ℕ, zero, suc, ◌<◌, ◌≤◌, List, [], ◌∷◌, length, Option, Some, None, refl, sym, ap, subst, ◌∙◌, arith, inr}
+use Rattle.std.proofs.Common.{◌≡◌, ℕ, zero, suc, ◌<◌, List, [], ◌∷◌, length, Option, Some, None, sym, subst, ◌∙◌, arith, inr}
 use Rattle.std.specs.Prelude.{slice_index, slice_index_or}
 use Rattle.lang_base.specs.declared.program.Program.{Program}
 use Rattle.machine.specs.Frames.{Frame as Caller, after_call}
-use Rattle.machine.proofs.Words.{after_call-lost, after_call-kept, length-after_call}
+use Rattle.machine.proofs.Words.{after_call-lost, length-after_call}
 use Rattle.linear_language.specs.Function.{FunctionData}
 use Rattle.x86_state.specs.declared.cell.Cell.{Cell}
 use Rattle.x86_state.specs.declared.cell.Spot.{Spot}
 use Rattle.native_lowering_definition.specs.Frames.{frame_of}
 use Rattle.native_lowering_relation.specs.Agreeing.{Agrees, AgreeEach}
 use Rattle.native_lowering_relation.specs.Standing.{Held, Holds, put_back}
-use Rattle.native_lowering_relation.specs.Waiting.{Waits, Wait}
+use Rattle.native_lowering_relation.specs.Waiting.{Wait}
 use Rattle.native_lowering_relation.proofs.Agreeing.{agree_at, agree_from}
 use Rattle.native_lowering_relation.proofs.Kept.{SameKept, same_put, length-put_back}
 

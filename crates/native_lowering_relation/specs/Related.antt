@@ -1,5 +1,5 @@
 -- When a state of native code stands for one of Linear.
-use Rattle.std.specs.Prelude.{◌≡◌, ℕ, List, Option, Some, slice_get}
+use Rattle.std.specs.Prelude.{◌≡◌, List, Option, Some, slice_get}
 use Rattle.lang_base.specs.declared.program.Named.{Named}
 use Rattle.lang_base.specs.declared.program.Program.{Program}
 use Rattle.machine.specs.Frames.{State}
