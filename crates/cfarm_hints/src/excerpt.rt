@@ -43,6 +43,26 @@ fn first_shown(length: usize, marked: usize) -> usize {
     }
 }
 
+/// Writes the bytes of a line as they are shown.
+fn write_row(out: &mut String, row: &[u8]) -> Result<(), AllocError> {
+    for byte in row {
+        out.push(shown(*byte))?;
+    }
+    out.push('\n')
+}
+
+/// Writes a mark behind so many columns of a line's number and what stands below these bytes.
+fn write_mark(out: &mut String, margin: usize, front: &[u8]) -> Result<(), AllocError> {
+    for _ in 0..margin {
+        out.push(' ')?;
+    }
+    out.push_str(" | ")?;
+    for byte in front {
+        out.push(below(*byte))?;
+    }
+    out.push_str("^\n")
+}
+
 /// Writes the line of this place behind its number, and a mark below the byte, each with an end of line.
 pub(crate) fn write_excerpt(
     out: &mut String,
@@ -56,17 +76,10 @@ pub(crate) fn write_excerpt(
     let start = first_shown(row.len(), marked);
     let number = format!(in alloc; "{} | ", place.line)?;
     out.push_str(number.as_str())?;
-    for byte in bytes_between(row, start, start.saturating_add(MOST)) {
-        out.push(shown(*byte))?;
-    }
-    out.push('\n')?;
-    for _ in 3..number.len() {
-        out.push(' ')?;
-    }
-    out.push_str(" | ")?;
-    for byte in bytes_between(row, start, marked) {
-        out.push(below(*byte))?;
-    }
-    out.push_str("^\n")?;
-    Ok(())
+    write_row(out, bytes_between(row, start, start.saturating_add(MOST)))?;
+    write_mark(
+        out,
+        number.len().saturating_sub(3),
+        bytes_between(row, start, marked),
+    )
 }

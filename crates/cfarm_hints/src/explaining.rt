@@ -43,29 +43,73 @@ fn is_byte_order_mark(text: &[u8], at: usize) -> bool {
     at == 0 && matches!(text, [0xEF, 0xBB, 0xBF, ..])
 }
 
-/// What is said of a token that does not fit.
+/// What is said of a token that does not fit, or else the sentence.
 fn said_of_syntax(
     alloc: Global,
     text: &[u8],
     at: usize,
     found: &str,
-) -> Result<Option<String>, AllocError> {
+    sentence: &str,
+) -> Result<String, AllocError> {
     let before = tokens_before(text, at);
     let is_on_new_line = bytes_between(text, before.end, at).contains(&b'\n');
     if let Some(mark) = missing_mark(found, is_on_new_line, &before) {
         let statement = statement_of(text, &before);
-        return Ok(Some(format!(in alloc; "`{found}` after `{statement}`: is `{mark}` missing?")?));
+        return format!(in alloc; "`{found}` after `{statement}`: is `{mark}` missing?");
     }
     if found.is_empty() {
         let wanted = if before.braces > 0 { "}" } else { ";" };
-        return Ok(Some(format!(in alloc; "the text ends: is `{wanted}` missing?")?));
+        return format!(in alloc; "the text ends: is `{wanted}` missing?");
     }
     if let Some(last) = missing_behind(found, &before) {
-        return Ok(Some(format!(in alloc; "`{found}`: a value is missing behind `{last}`")?));
+        return format!(in alloc; "`{found}`: a value is missing behind `{last}`");
     }
     match hint(found, &before) {
-        Some(hint) => Ok(Some(format!(in alloc; "`{found}`: {hint}")?)),
-        None => Ok(None),
+        Some(hint) => format!(in alloc; "`{found}`: {hint}"),
+        None => format!(in alloc; "{sentence}"),
+    }
+}
+
+/// What is said of a byte, a number, or a name that passes a limit.
+fn hint_at_token(text: &[u8], number: u16, at: usize, found: &str) -> Option<&'static str> {
+    match number {
+        201 => hint_at_byte(found, token_from(text, at.saturating_add(1)).word),
+        203 => hint_at_number(found),
+        228 => Some(limit_at(text, at, found)),
+        _ => None,
+    }
+}
+
+/// What is said of a character constant or of a mark of the byte order.
+fn hint_at_start(text: &[u8], number: u16, at: usize) -> Option<&'static str> {
+    if number == 204 {
+        Some(CHARACTERS)
+    } else if number == 201 && is_byte_order_mark(text, at) {
+        Some(BYTE_ORDER)
+    } else {
+        None
+    }
+}
+
+/// What is said of a name, or else the sentence.
+fn said_of_name(
+    alloc: Global,
+    text: &[u8],
+    number: u16,
+    at: usize,
+    sentence: &str,
+) -> Result<String, AllocError> {
+    let found = token_at(text, at);
+    let hint = match number {
+        220 => hint_at_name(alloc, text, at, found),
+        221 => hint_at_second(alloc, text, at, found),
+        222 => hint_at_count(alloc, text, at, found),
+        _ => Ok(None),
+    };
+    match hint {
+        Ok(Some(hint)) => Ok(hint),
+        Ok(None) => format!(in alloc; "{sentence}"),
+        Err(fault) => Err(fault),
     }
 }
 
@@ -78,27 +122,15 @@ fn said(
     sentence: &str,
 ) -> Result<String, AllocError> {
     let found = token_at(text, at);
-    let hint = match number {
-        201 if is_byte_order_mark(text, at) => Some(format!(in alloc; "{}", BYTE_ORDER)?),
-        201 => match hint_at_byte(found, token_from(text, at.saturating_add(1)).word) {
-            Some(hint) => Some(format!(in alloc; "`{found}`: {hint}")?),
-            None => None,
-        },
-        203 => match hint_at_number(found) {
-            Some(hint) => Some(format!(in alloc; "`{found}`: {hint}")?),
-            None => None,
-        },
-        204 => Some(format!(in alloc; "{}", CHARACTERS)?),
-        210 => said_of_syntax(alloc, text, at, found)?,
-        220 => hint_at_name(alloc, text, at, found)?,
-        221 => hint_at_second(alloc, text, at, found)?,
-        222 => hint_at_count(alloc, text, at, found)?,
-        228 => Some(format!(in alloc; "`{found}`: {}", limit_at(text, at, found))?),
-        _ => None,
-    };
-    match hint {
-        Some(hint) => Ok(hint),
-        None => format!(in alloc; "{sentence}"),
+    if number == 210 {
+        return said_of_syntax(alloc, text, at, found, sentence);
+    }
+    if let Some(hint) = hint_at_start(text, number, at) {
+        return format!(in alloc; "{hint}");
+    }
+    match hint_at_token(text, number, at, found) {
+        Some(hint) => format!(in alloc; "`{found}`: {hint}"),
+        None => said_of_name(alloc, text, number, at, sentence),
     }
 }
 

@@ -29,6 +29,28 @@ const NAMES: [(&str, &str); 8] = [
     ("false", "write `0`"),
 ];
 
+/// The same, where it is something.
+fn some(text: Result<String, AllocError>) -> Result<Option<String>, AllocError> {
+    match text {
+        Ok(text) => Ok(Some(text)),
+        Err(fault) => Err(fault),
+    }
+}
+
+/// What is said of a name that is none of C's libraries' and is not declared in front.
+fn hint_at_own(alloc: Global, text: &[u8], at: usize, found: &str) -> Result<String, AllocError> {
+    if let Some(near) = near_name(text, at, found) {
+        return format!(in alloc; "`{found}` is not declared: is `{near}` meant?");
+    }
+    match declared_behind(text, at, found) {
+        Some(behind) => {
+            let line = place_of(text, behind).line;
+            format!(in alloc; "`{found}` is declared in line {line}: declare it in front of here")
+        }
+        None => format!(in alloc; "`{found}` is not declared"),
+    }
+}
+
 /// What is said of a name that is not declared.
 pub(crate) fn hint_at_name(
     alloc: Global,
@@ -39,19 +61,10 @@ pub(crate) fn hint_at_name(
     if declared_before(text, at, found).is_some() {
         return Ok(None);
     }
-    if let Some(hint) = said(&NAMES, found) {
-        return Ok(Some(format!(in alloc; "`{found}` is not declared: {hint}")?));
+    match said(&NAMES, found) {
+        Some(hint) => some(format!(in alloc; "`{found}` is not declared: {hint}")),
+        None => some(hint_at_own(alloc, text, at, found)),
     }
-    if let Some(near) = near_name(text, at, found) {
-        return Ok(Some(format!(in alloc; "`{found}` is not declared: is `{near}` meant?")?));
-    }
-    if let Some(behind) = declared_behind(text, at, found) {
-        let line = place_of(text, behind).line;
-        return Ok(Some(format!(in alloc;
-            "`{found}` is declared in line {line}: declare it in front of here"
-        )?));
-    }
-    Ok(Some(format!(in alloc; "`{found}` is not declared")?))
 }
 
 /// What is said of a name that is declared already.

@@ -81,6 +81,14 @@ const FUNCTION: &str = "no function stands in a function: declare it outside of 
 
 const CELLS: &str = "write the number of cells, `int t[3] = {1, 2, 3};`";
 
+/// Marks that fit nowhere, and what to write.
+const MARKS: [(&str, &str); 3] = [("++", CHANGE), ("--", CHANGE), (":", "there are no labels")];
+
+/// Operators that assign.
+const ASSIGNMENTS: [&str; 11] = [
+    "=", "+=", "-=", "*=", "/=", "%=", "<<=", ">>=", "&=", "^=", "|=",
+];
+
 /// Keywords of the language that are no types.
 const WORDS: [&str; 8] = [
     "if", "else", "while", "for", "do", "return", "break", "continue",
@@ -207,26 +215,54 @@ pub(crate) fn is_keyword(token: &str) -> bool {
     is_type(token) || WORDS.iter().any(|word| *word == token)
 }
 
-/// What to write in place of this token.
-fn said_of_token(found: &str, before: &Before<'_>) -> Option<&'static str> {
+/// What to write in place of a closing parenthesis, bracket or brace.
+fn said_of_closing(found: &str, before: &Before<'_>) -> Option<&'static str> {
+    let is_declared = is_type(before.first);
     match found {
-        "++" | "--" => Some(CHANGE),
-        "=" | "+=" | "-=" | "*=" | "/=" | "%=" | "<<=" | ">>=" | "&=" | "^=" | "|=" => {
-            Some(said_of_assignment(found, before))
-        }
-        "*" if is_type(before.last) => Some("there are no pointers"),
-        "&" if !is_word(before.last) => Some("there are no pointers"),
-        ")" if before.last == "(" && is_type(before.first) => {
+        ")" if before.last == "(" && is_declared => {
             Some("where there are no parameters, write `(void)`")
         }
-        "]" if before.last == "[" && is_type(before.first) => Some(CELLS),
+        "]" if before.last == "[" && is_declared => Some(CELLS),
         "}" if before.braces == 0 => Some("no `{` is open"),
         "}" if before.last == "," => Some("no comma stands behind the last initial word"),
-        ":" => Some("there are no labels"),
-        "==" if is_word(before.last) && before.first == before.last => Some(COMPARED),
-        _ if is_operator(found) && is_behind_call(before) => Some(CALL),
-        _ if is_word(found) => said_of_word(found, before),
-        _ => said_of_list(found, before),
+        _ => None,
+    }
+}
+
+/// What to write in place of an operator.
+fn said_of_operator(found: &str, before: &Before<'_>) -> Option<&'static str> {
+    if found == "==" && is_word(before.last) && before.first == before.last {
+        Some(COMPARED)
+    } else if found == "*" && is_type(before.last) || found == "&" && !is_word(before.last) {
+        Some("there are no pointers")
+    } else if is_behind_call(before) {
+        Some(CALL)
+    } else {
+        None
+    }
+}
+
+/// Whether the operator assigns.
+fn is_assignment(found: &str) -> bool {
+    ASSIGNMENTS.iter().any(|operator| *operator == found)
+}
+
+/// What to write in place of this token.
+fn said_of_token(found: &str, before: &Before<'_>) -> Option<&'static str> {
+    if let Some(hint) = said(&MARKS, found) {
+        return Some(hint);
+    }
+    if let Some(hint) = said_of_closing(found, before) {
+        return Some(hint);
+    }
+    if is_assignment(found) {
+        Some(said_of_assignment(found, before))
+    } else if is_operator(found) {
+        said_of_operator(found, before)
+    } else if is_word(found) {
+        said_of_word(found, before)
+    } else {
+        said_of_list(found, before)
     }
 }
 

@@ -1,2 +1,3 @@
 mod Lifted
 mod AsFileDisk
+mod AsRead

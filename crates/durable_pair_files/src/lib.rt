@@ -3,7 +3,9 @@
 
 mod file;
 mod opening;
+mod surviving;
 mod unopened;
 
 pub use file::FilePair;
+pub use surviving::pair_survives;
 pub use unopened::Unopened;

@@ -42,8 +42,8 @@ module _ (p : Program FunctionData) (room : Option ℕ) (s : State) (t : Native)
         more = 0;
         to = set_to target word;
         go = block_runs p related.named room s.place i (Set (register_of target) word ∷ []) t (Goes (set_to target word))
-        (ap (slice_get p.functions) related.function ∙ related.there) at related.place refl tt
-        (ap (λ (ws : List ℕ). Goes (record t { place = t.place + 1; registers = ws })) (with_word_at target word t.registers near));
+            (ap (slice_get p.functions) related.function ∙ related.there) at related.place refl tt
+            (ap (λ (ws : List ℕ). Goes (record t { place = t.place + 1; registers = ws })) (with_word_at target word t.registers near));
         related = goes_below p s t related i (Set (register_of target) word ∷ []) (set_here target word) (set_to target word) held (record {
           at = at;
           is_it = refl;

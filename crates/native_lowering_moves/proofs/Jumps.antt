@@ -95,6 +95,6 @@ module _ (p : Program FunctionData) (room : Option ℕ) (s : State) (t : Native)
         more = 0;
         to = u;
         go = block_runs p related.named room s.place i (jumps (around_of p f) label ∷ []) t (Goes u) (ap (slice_get p.functions) related.function ∙ related.there) at related.place refl tt
-        (ap (λ x. onward x (walks (lowered p).functions room (code_of p f) [])) (jump_goes p room f label m t there));
+            (ap (λ x. onward x (walks (lowered p).functions room (code_of p f) [])) (jump_goes p room f label m t there));
         related = goes_to_label p s t related i label m u at (goto_names label) there refl;
       }

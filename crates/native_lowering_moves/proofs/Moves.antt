@@ -68,7 +68,7 @@ module _ (p : Program FunctionData) (room : Option ℕ) (s : State) (t : Native)
     more = 0;
     to = u;
     go = subst (λ n. steps (lowered p).functions room n t ≡ Goes u) one
-    (block_runs p related.named room s.place (l.Copy step) b t (Goes u) (ap (slice_get p.functions) related.function ∙ related.there) leaves.at related.place leaves.is_it straight walk);
+        (block_runs p related.named room s.place (l.Copy step) b t (Goes u) (ap (slice_get p.functions) related.function ∙ related.there) leaves.at related.place leaves.is_it straight walk);
     related = goes_below p s t related (l.Copy step) b (moved step s.here) u held' leaves;
   }
 
@@ -118,7 +118,7 @@ module _ (p : Program FunctionData) (room : Option ℕ) (s : State) (t : Native)
         stands = refl;
         saved = refl;
         holds = slot_written f s.here.registers s.here.slots t.registers held related.holds k w (value_at (InRegister q) s.here)
-        (agree_at s.here.registers t.registers q related.holds.agree);
+            (agree_at s.here.registers t.registers q related.holds.agree);
         known = related.known;
         kept = or_same (frame_of f).saved t.registers t.registers refl;
       }

@@ -73,11 +73,11 @@ module _ (p : Program FunctionData) (room : Option ℕ) (s : State) (t : Native)
         leaves = ap (λ k. left d k (facts_in f s.place)) behind;
         straight = (below, tt);
         scratch = one_scratched f s.here.registers s.here.slots related.held t.registers t.registers 8 (with_low_byte (word Eax t) w) (omega arith)
-        (not_scratched f s.here.registers s.here.slots related.held t.registers related.holds);
+            (not_scratched f s.here.registers s.here.slots related.held t.registers related.holds);
         answers = flag_not_zero (condition_table condition x y)
-        ∙ ap (λ n. not (nat_eq n 0)) (sym (get_or-set_same words d w 0 (omega (arith, near, related.holds.thirteen, length-set t.registers 8 (with_low_byte (word Eax t) w)))));
+            ∙ ap (λ n. not (nat_eq n 0)) (sym (get_or-set_same words d w 0 (omega (arith, near, related.holds.thirteen, length-set t.registers 8 (with_low_byte (word Eax t) w)))));
         walk = ap (λ z. onward z (walks (lowered p).functions room (code_of p f) (Flag condition (register_of d) ∷ []))) goes
-        ∙ ap (λ z. onward z (walks (lowered p).functions room (code_of p f) [])) (flag_goes condition d x y near);
+            ∙ ap (λ z. onward z (walks (lowered p).functions room (code_of p f) [])) (flag_goes condition d x y near);
       })
 
   pub compares_reaches : (o : Op) (condition : Condition) (d a b x y : ℕ) → kind_of o ≡ Compares condition

@@ -57,6 +57,7 @@ module _ (functions : List (Named Function)) (room : Option ℕ) (code : List In
     where
       two : t.place + 1 + 1 ≡ t.place + 2
       two = omega arith
+
       again : slice_set (slice_set t.registers d x) d r ≡ slice_set t.registers d r
       again = set-set t.registers d x r
 

@@ -176,6 +176,7 @@ module _ (p : Program FunctionData) (room : Option ℕ) (s : State) (t : Native)
     where
       once : Scratch p room s t related (slice_set t.registers 8 x)
       once = one_scratched f s.here.registers s.here.slots related.held t.registers t.registers 8 x (omega arith) unchanged
+
       subtracted : Scratch p room s t related (slice_set (slice_set t.registers 8 x) 8 (operated Sub x y))
       subtracted = one_scratched f s.here.registers s.here.slots related.held t.registers (slice_set t.registers 8 x) 8 (operated Sub x y) (omega arith) once
   in_second o Add d a b x y kind at near near' left_is right_is is_it =

@@ -58,5 +58,5 @@ module _ (p : Program FunctionData) (room : Option ℕ) (s : State) (t : Native)
         scratch = not_scratched f s.here.registers s.here.slots related.held t.registers related.holds;
         answers = tt;
         walk = copy_walks (lowered p).functions room (code_of p f) t d a x (turned op x) (turn_flags op t.flags) (Turn op (register_of d)) near' near related.holds.thirteen here
-        (turn_leaves op d x near);
+            (turn_leaves op d x near);
       })

@@ -63,7 +63,7 @@ module _ (p : Program FunctionData) (room : Option ℕ) (s : State) (t : Native)
         more = more;
         to = u;
         go = subst (λ n. steps (lowered p).functions room n t ≡ Goes u) writes.count
-        (block_runs p related.named room s.place i b t (Goes u) (ap (slice_get p.functions) related.function ∙ related.there) writes.at related.place writes.is_it writes.straight writes.walk);
+            (block_runs p related.named room s.place i b t (Goes u) (ap (slice_get p.functions) related.function ∙ related.there) writes.at related.place writes.is_it writes.straight writes.walk);
         related = goes_below p s t related i b (written_here d w) u related.held (record {
           at = writes.at;
           is_it = writes.is_it;
@@ -75,8 +75,8 @@ module _ (p : Program FunctionData) (room : Option ℕ) (s : State) (t : Native)
           saved = refl;
           holds = register_written f s.here.registers s.here.slots words related.held writes.scratch.holds d w (Some w) (agrees_itself w);
           known = subst (λ facts. IsSo facts (slice_set s.here.registers d (Some w)) flags (slice_set words d w)) (sym writes.leaves)
-          (so_left (facts_in f s.place) s.here.registers t.flags flags t.registers (slice_set words d w) d (Some w) flag related.known writes.answers);
+              (so_left (facts_in f s.place) s.here.registers t.flags flags t.registers (slice_set words d w) d (Some w) flag related.known writes.answers);
           kept = or_then (frame_of f).saved t.registers words (slice_set words d w) writes.scratch.kept
-          (or_written (frame_of f).saved words d w (written_saved f d (target_written f s.place d i writes.at writes.target)));
+              (or_written (frame_of f).saved words d w (written_saved f d (target_written f s.place d i writes.at writes.target)));
         });
       }
