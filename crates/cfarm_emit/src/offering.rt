@@ -17,7 +17,7 @@ use std::alloc::Global;
 
 /// Who makes the offers: the baselines, or the optimisers of a first node, which draw from the seed.
 fn maker_of(seed: Option<u64>) -> Maker
-    ensures { seed ≡ None → result.words ≡ None }
+    ensures { seed ≡ None → result.draws ≡ None }
 {
     match seed {
         None => Maker::baselines(),

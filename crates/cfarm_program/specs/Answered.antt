@@ -37,10 +37,9 @@ module _ {W E : Type 0} (contents : W → Option (List ℕ)) (errors : E → Err
   IsMemoryTold = IsUnprinted × IsToldAs no_memory status (errors err.entry.now) (errors err.exit.now)
 
   -- help is printed, and a mistake is told
-  pub record IsTextShown (kind : ErrorKind) (text : List ℕ) : Type 0 where
-    pub words : kind ≢ OutOfMemory
-    pub help : IsHelp kind → IsHelpPrinted text
-    pub mistake : kind ≢ DisplayHelp → kind ≢ DisplayVersion → IsMistakeTold text
+  abbrev pub IsTextShown : ErrorKind → List ℕ → Type 0
+  IsTextShown kind text =
+      (kind ≢ OutOfMemory) × (IsHelp kind → IsHelpPrinted text) × (kind ≢ DisplayHelp → kind ≢ DisplayVersion → IsMistakeTold text)
 
   -- An answer of `clap` is shown, by a text that may be shown of it; or memory was refused.
   abbrev pub IsAnswerShown : (may_show : Error → List ℕ → Type 0) → Error → Type 0

@@ -10,11 +10,7 @@ returns-in-Some-clause-told g c =
     inr (
       text,
       subst may_show (sym c.as_str.ensures.value) c.in-Some.ensures.text,
-      record {
-        words = words;
-        help = rw c.kind.ensures at c.show.ensures.help;
-        mistake = rw c.kind.ensures at c.show.ensures.mistake;
-      },
+      (words, rw c.kind.ensures at c.show.ensures.help, rw c.kind.ensures at c.show.ensures.mistake),
     )
 
 pub returns-in-None-clause-told : goal.returns-in-None-clause-told
