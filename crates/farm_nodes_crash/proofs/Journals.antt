@@ -33,7 +33,7 @@ module _ {D : Type 0} (disk : disks.Ghosts D) (pair : pairs.Ghosts D) (q : Sizes
         subst (λ (n : ℕ). AreInOrder q.nodes i (4 * n) rs) node.functions_are
         (subst (λ (h : Header). AreInOrder h.nodes h.node (4 * length seats) rs) node.header
         (own_in_order pass_texts disk.is_honest disk.seen disk.may_leave log seats halted (disk.seen p) node.sound node.honest
-        (new_is_left log.disk (disk.seen p) node.honest left.both.0) rs
+        (new_is_left log.disk (disk.seen p) node.honest left.shows.left.0) rs
         (subst (λ (h : Header). StandsFor h rs (disk.seen p)) (sym node.header)
         (own_stands disk pair q digest functions honest_spent new_is_left i log seats halted node p left now rs opened))))
 

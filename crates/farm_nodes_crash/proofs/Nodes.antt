@@ -112,10 +112,10 @@ module _ {D : Type 0} (disk : disks.Ghosts D) (pair : pairs.Ghosts D) (q : Sizes
   pub bytes_between : Between header upto (upto ++ pending_in seats halted) (disk.seen p)
   bytes_between =
       subst (λ (h : Header). Between h upto (upto ++ pending_in seats halted) (disk.seen p)) node.header
-      (either-between log.header upto (upto ++ pending_in seats halted) (disk.seen p) (pending_in seats halted, refl) (journal.left (disk.seen p) (new_is_left log.disk (disk.seen p) node.honest left.both.0)))
+      (either-between log.header upto (upto ++ pending_in seats halted) (disk.seen p) (pending_in seats halted, refl) (journal.left (disk.seen p) (new_is_left log.disk (disk.seen p) node.honest left.shows.left.0)))
 
   pub own_spent : IsSpent (pair.old_seen p)
-  own_spent = honest_spent log.disk (pair.old_seen p) node.honest left.both.1
+  own_spent = left.shows.spent (honest_spent log.disk left.shows.old node.honest left.shows.left.1)
 
   -- it is not refused
   pub own_opens : (fault : LogError) → IsDueToJournal disk pair header p fault → ⊥

@@ -2,7 +2,6 @@
 use Rattle.std.specs.Prelude.{◌≡◌, ℕ, ◌<◌, List, length, Option, Some, None, slice_get}
 use Rattle.durable_model.specs.declared.disk.Disk as disks
 use Rattle.durable_pair.specs.declared.pair.Pair as pairs
-use Rattle.durable_pair.specs.Images.{Both}
 use Rattle.paxos_core_world.specs.Quorum.{Sizes}
 use Rattle.acceptor_log.specs.declared.log.Log.{Log}
 use Rattle.farm_nodes_turn_passes.specs.Fours.{Four}
@@ -10,6 +9,7 @@ use Rattle.farm_nodes_turn_passes.specs.Offers.{ConstantsOffer, ExpressionsOffer
 use Rattle.farm_nodes_turn_passes.specs.Leaves.{MayPend}
 use Rattle.farm_nodes_turn_node.specs.declared.halted.Halted.{Halted}
 use Rattle.farm_nodes_turn_node.specs.Held.{IsSoundNode}
+use Rattle.farm_nodes_restart_disks.specs.Left.{ShowsLeft}
 use Rattle.farm_nodes_open_journals.specs.Journals.{header_of}
 
 -- a node's seats in the rooms of all functions, by function
@@ -33,7 +33,7 @@ module _ {D : Type 0} (disk : disks.Ghosts D) (pair : pairs.Ghosts D) (q : Sizes
   -- both disks of the pair are honest, and show what a crash now may leave of those that this journal is on
   pub record IsLeftOf (log : Log D) (p : D) : Type 0 where
     pub whole : pair.is_whole p
-    pub both : Both pair.new_may pair.old_may log.disk (disk.seen p, pair.old_seen p)
+    pub shows : ShowsLeft disk pair log.disk p
 
   -- a crash of all nodes of a farm leaves these pairs, in the order of the nodes
   pub record AreLeftOf (logs : ℕ → Log D) (seats : ℕ → NodeSeats) (halted : ℕ → Option Halted) (given : List D) : Type 0 where

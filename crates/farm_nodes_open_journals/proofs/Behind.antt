@@ -17,8 +17,9 @@ use Rattle.acceptor_log.specs.Acknowledged.{acknowledged, IsSound}
 use Rattle.acceptor_log.specs.declared.log.Log.{Log}
 use Rattle.acceptor_log_old.specs.Migrated.{migrated}
 use Rattle.acceptor_log_migrating.specs.Stands.{CanMigrate, IsMigrating, IsNotMigrated}
+use Rattle.acceptor_log_migrating.specs.Moving.{Stays}
 use Rattle.farm_nodes_open_old.specs.OnPairs.{HasOld, HasNone, HasNew, MayShow, IsSame, IsUntouched}
-use Rattle.farm_nodes_open_journals.specs.Journals.{MayTurn, IsOpened, IsRefused, IsMigrated, IsListed, WasMigrated}
+use Rattle.farm_nodes_open_journals.specs.Journals.{MayStay, MayTurn, IsOpened, IsRefused, IsMigrated, IsListed, WasMigrated}
 use Rattle.farm_nodes_open_old.proofs.Shows.{shows_first, shows_then}
 use Rattle.farm_nodes_open_journals.proofs.InFront.{both_ways}
 
@@ -36,6 +37,13 @@ module _ {P : Type 0} (disk : disks.Ghosts P) (pair : pairs.Ghosts P) where
     turns_then n second same =
         composed disk.moment pair.both_since p m n (Both pair.new_may pair.old_may p) (IsMigrating h old (pair.old_seen m)) (MayTurn disk pair h old p) first second
         (λ im both. inl both) (λ im is. inr (subst (λ (bytes : List ℕ). IsMigrating h old bytes im) same is))
+
+  module _ (p m : P) (first : LeavesOnly disk.moment pair.both_since p m (Both pair.new_may pair.old_may p)) where
+    pub stays_then : (n : P) → LeavesOnly disk.moment pair.both_since m n (λ im. im.1 ≡ pair.old_seen m) → pair.old_seen m ≡ pair.old_seen p
+        → LeavesOnly disk.moment pair.both_since p n (MayStay disk pair p)
+    stays_then n second same =
+        composed disk.moment pair.both_since p m n (Both pair.new_may pair.old_may p) (λ im. im.1 ≡ pair.old_seen m) (MayStay disk pair p) first second
+        (λ im both. inl both) (λ im is. inr (is ∙ same))
 
   risen_from : (a b c : ℕ) → b ≡ a → Risen b c → Risen a c
   risen_from a b c same risen = subst (λ (n : ℕ). Risen n c) same risen
@@ -60,6 +68,7 @@ module _ {P : Type 0} (disk : disks.Ghosts P) (pair : pairs.Ghosts P) where
       unwritten = λ is device. inl (untouched is);
       any_moment = λ is new. shows_first disk pair shown of_both p m (first is);
       turning = λ old is counts can. turns_first p m (first is) h old;
+      stays = λ is counts memory device. absurd (memory (only device));
       failed = failed;
       unfailed = unfailed;
     }
@@ -126,6 +135,7 @@ module _ {P : Type 0} (disk : disks.Ghosts P) (pair : pairs.Ghosts P) where
           });
       any_moment = λ is new. moments back second is new;
       turning = λ old is counts can. absurd (counts (spent is));
+      stays = λ is counts memory device. absurd (counts (spent is));
       failed = λ device. risen_from (disk.faults p) (disk.faults m) (disk.faults back) faults (failed device);
       unfailed = λ device. unfailed device ∙ faults;
     }
@@ -196,13 +206,15 @@ module _ {P : Type 0} (disk : disks.Ghosts P) (pair : pairs.Ghosts P) where
         → (pair.is_whole m → fault ≢ Device → ((disk.seen back ≡ disk.seen m) × (pair.old_seen back ≡ pair.old_seen m)) ⊎ WasMigrated disk pair h m back)
         → (pair.is_whole m → Only (pair.old_seen m) (pair.old_may m) → (old : List Record) → CanMigrate h old (pair.old_seen m)
         → LeavesOnly disk.moment pair.both_since m back (IsMigrating h old (pair.old_seen m)))
+        → (pair.is_whole m → Stays disk pair m back fault)
         → (fault ≡ Device → Risen (disk.faults m) (disk.faults back)) → (fault ≢ Device → disk.faults back ≡ disk.faults m) → IsRefused disk pair h p back fault
-    refused_old back fault as_whole cause unwritten second failed unfailed = record {
+    refused_old back fault as_whole cause unwritten second stay failed unfailed = record {
       whole = λ is. as_whole.1 (whole.1 is);
       refused = λ is memory device. inl (counts_still is, subst (λ (bytes : List ℕ). IsNotMigrated h bytes fault) (same is).old_same (cause (whole.1 is) memory device));
       unwritten = λ is device. ⊎_elim (λ are. inl (untouched_old back is are)) (λ was. inr (migrated_old back is was)) (unwritten (whole.1 is) device);
       any_moment = λ is new. absurd (counts_still is new.0);
       turning = λ old is still can. turning back second is old can;
+      stays = λ is still memory device. stays_then p m (first is) back (stay (whole.1 is) (synced_there is) memory device) (same is).old_same;
       failed = λ device. risen_from (disk.faults p) (disk.faults m) (disk.faults back) faults (failed device);
       unfailed = λ device. unfailed device ∙ faults;
     }

@@ -33,6 +33,10 @@ module _ {P : Type 0} (disk : disks.Ghosts P) (pair : pairs.Ghosts P) where
   abbrev pub MayTurn : Header → List Record → P → Images → Type 0
   MayTurn header old p im = Both pair.new_may pair.old_may p im ⊎ IsMigrating header old (pair.old_seen p) im
 
+  -- what a crash now may leave of both; or the old journal as it is
+  abbrev pub MayStay : P → Images → Type 0
+  MayStay p im = Both pair.new_may pair.old_may p im ⊎ (im.1 ≡ pair.old_seen p)
+
   -- The old journal was migrated: what is listed is what that makes of its records, and it counts no more. A crash at any
   -- moment of it leaves one of the two journals.
   pub record IsMigrated (header : Header) (given : P) (log : Log P) (records : List Record) : Type 0 where
@@ -76,7 +80,8 @@ module _ {P : Type 0} (disk : disks.Ghosts P) (pair : pairs.Ghosts P) where
     pub turned : IsTurned pair given back
 
   -- It is the pair that was given, and the journal on it has the fault; or memory or the device failed. Its old journal
-  -- may have been migrated; but for that nothing was written, where the device did not fail.
+  -- may have been migrated; but for that nothing was written, where the device did not fail. One that is refused for its own sake stays:
+  -- a crash at any moment leaves it.
   pub record IsRefused (header : Header) (given back : P) (fault : LogError) : Type 0 where
     pub whole : pair.is_whole given → pair.is_whole back
     pub refused : pair.is_whole given → fault ≢ NoMemory → fault ≢ Device → IsDueToJournal header given fault
@@ -87,6 +92,8 @@ module _ {P : Type 0} (disk : disks.Ghosts P) (pair : pairs.Ghosts P) where
     pub turning : (old : List Record) → pair.is_whole given → HasOld disk pair given
         → CanMigrate header old (pair.old_seen given)
         → LeavesOnly disk.moment pair.both_since given back (MayTurn header old given)
+    pub stays : pair.is_whole given → HasOld disk pair given → fault ≢ NoMemory → fault ≢ Device
+        → LeavesOnly disk.moment pair.both_since given back (MayStay given)
     pub failed : fault ≡ Device → Risen (disk.faults given) (disk.faults back)
     pub unfailed : fault ≢ Device → disk.faults back ≡ disk.faults given
 

@@ -1,4 +1,5 @@
 pub mod Stopped
+pub mod Left
 pub mod Own
 pub mod Cause
 pub mod OverPair

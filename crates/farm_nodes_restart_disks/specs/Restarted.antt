@@ -2,7 +2,7 @@
 use Rattle.std.specs.Prelude.{◌≡◌, ◌*◌, ◌↔◌, true, length, Option, None, Some, Result, Ok, Err}
 use Rattle.durable_model.specs.declared.disk.Disk as disks
 use Rattle.durable_pair.specs.declared.pair.Pair as pairs
-use Rattle.durable_pair.specs.Images.{Both, IsSpent}
+use Rattle.durable_pair.specs.Images.{IsSpent}
 use Rattle.acceptor_log_form.specs.Order.{AreInOrder}
 use Rattle.acceptor_log_form.specs.Text.{StandsFor}
 use Rattle.acceptor_log.specs.Acknowledged.{acknowledged}
@@ -14,6 +14,7 @@ use Rattle.farm_nodes_restart_seat.specs.declared.fault.RestartFault.{RestartFau
 use Rattle.farm_nodes_restart_node.specs.Seats.{HaveComeBack}
 use Rattle.farm_nodes_open_old.specs.OnPairs.{IsShown, IsUntouched}
 use Rattle.farm_nodes_restart_disks.specs.Cause.{HasCauseOn}
+use Rattle.farm_nodes_restart_disks.specs.Left.{ShowsLeft}
 use Rattle.farm_nodes_restart_disks.specs.Own.{IsOwnFault}
 use Rattle.farm_nodes_restart_disks.specs.Stopped.{left_by, room_in, stopped_by}
 
@@ -42,10 +43,10 @@ module _ {P O H : Type 0} {h : naming.Ghosts H} where
     pub draws : now.draws ≡ node.draws
 
 module _ {P O H : Type 0} {h : naming.Ghosts H} (disk : disks.Ghosts P) (pair : pairs.Ghosts P) where
-  -- both disks are honest, and show what a crash now may leave of those that the node is on
+  -- the disks that the node is on are honest, and those that are given show what a crash now may leave of them
   pub record IsLeftOfItsOwn (node : FarmNode P O H h) (given : P) : Type 0 where
     pub honest : disk.is_honest node.log.disk
-    pub both : Both pair.new_may pair.old_may node.log.disk (disk.seen given, pair.old_seen given)
+    pub shows : ShowsLeft disk pair node.log.disk given
 
   -- ---- it comes back
 

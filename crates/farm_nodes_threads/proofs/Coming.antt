@@ -16,6 +16,7 @@ use Rattle.offers.specs.declared.parts.Parts.{Parts}
 use Rattle.farm_nodes_turn_node.specs.SeatValue.{SeatValue}
 use Rattle.farm_nodes_turn_node.specs.Served.{IsServed}
 use Rattle.farm_nodes_turn_node.proofs.Keeping.{goes_same, goes_through}
+use Rattle.farm_nodes_turn_node.proofs.UnderWay.{way_same, way_through}
 use Rattle.farm_nodes_turn_node.specs.Played.{StaysInTurn}
 use Rattle.farm_nodes_turn_node.specs.Numbers.{function_of, pass_of}
 use Rattle.farm_nodes_turn_node.specs.Fours.{Four}
@@ -40,6 +41,7 @@ stays_so s = record {
   quorums = refl;
   learned = λ v e. e;
   offered = λ e. e;
+  under_way = way_same s.words.node;
   seen = λ j x e. e;
   run = goes_same s.words;
 }
@@ -54,6 +56,7 @@ stays_through s t u a b = record {
   quorums = b.quorums ∙ a.quorums;
   learned = λ v e. b.learned v (a.learned v e);
   offered = λ e. b.offered (a.offered e);
+  under_way = way_through s.words.node t.words.node u.words.node a.under_way b.under_way;
   seen = λ j x e. b.seen j x (a.seen j x e);
   run = goes_through s.words t.words u.words a.run b.run;
 }

@@ -1,11 +1,13 @@
 -- The input of a pass behind the first: what was learned in the room before.
 use Rattle.std.proofs.Common.{◌≡◌, ◌<◌, ℕ, true, Option, Some, None, IsSome, MatchOption, option_copied, Bor, Result, Ok, Err, OnOk, IfErr, refl, subst}
+use Rattle.rand_pcg.specs.Lcg.{Lcg}
+use Rattle.rand_pcg.specs.Pcg.{pcg32}
 use Rattle.offers.specs.declared.parts.Parts.{Parts}
 use Rattle.farm_nodes_turn_room.specs.SeatValue.{SeatValue}
 use Rattle.farm_nodes_turn_room.specs.Act.TheVariants as asked
 use Rattle.farm_nodes_turn_room.specs.Would.{would}
 use Rattle.farm_nodes_turn_room.specs.Quiet.{IsQuiet}
-use Rattle.farm_nodes_turn_room.specs.Leading.{LeadsByLot}
+use Rattle.farm_nodes_turn_room.specs.Leading.{HasDrawn, LeadsByLot}
 use Rattle.farm_nodes_turn_passes.specs.Fours.{Four, words_of}
 use Rattle.farm_nodes_turn_passes.specs.declared.which.Which.{Which}
 use Rattle.farm_nodes_turn_room.specs.Played.{HasLearnedNone, IsLearnedOutput, IsMadeOn}
@@ -37,12 +39,13 @@ if_err (Ok a) P Q f p = p
 if_err (Err e) P Q f p = f e p
 
 -- what stands after a turn that did not fail, of its parts
-pub stands_after : {A E T1 T2 T3 T4 : Type 0} (r : Result A E) (pass : Which) (word : ℕ) (old new : Four T1 T2 T3 T4)
+pub stands_after : {A E T1 T2 T3 T4 : Type 0} (r : Result A E) (pass : Which) (draws drawn : Lcg) (old new : Four T1 T2 T3 T4)
     → OnOk r (HasInput pass old → (words_of new pass).node.kept.offered ≡ true)
     → OnOk r ((j : ℕ) → j < (words_of new pass).node.quorums.nodes → IsQuiet j (words_of new pass))
     → OnOk r (would (words_of new pass) asked.Propose ≡ None)
-    → OnOk r (LeadsByLot word (words_of old pass) (words_of new pass))
-    → OnOk r (StandsAfter pass word old new)
-stands_after (Ok a) pass word old new offered quiet proposed led =
-    record { offered = offered; quiet = quiet; proposed = proposed; led = led }
-stands_after (Err e) pass word old new offered quiet proposed led = offered
+    → OnOk r (LeadsByLot (pcg32 draws).0 (words_of old pass) (words_of new pass))
+    → OnOk r (HasDrawn draws drawn (words_of old pass) (words_of new pass))
+    → OnOk r (StandsAfter pass draws drawn old new)
+stands_after (Ok a) pass draws drawn old new offered quiet proposed led has =
+    record { offered = offered; quiet = quiet; proposed = proposed; led = led; has_drawn = has }
+stands_after (Err e) pass draws drawn old new offered quiet proposed led has = offered

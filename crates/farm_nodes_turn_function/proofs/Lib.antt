@@ -6,3 +6,4 @@ pub use Rattle.farm_nodes_turn_passes.proofs.Sent
 pub use Rattle.farm_nodes_turn_room.proofs.Told
 pub use Rattle.farm_nodes_turn_room.proofs.Rooms
 pub use Rattle.farm_nodes_turn_passes.proofs.Keeping
+pub use Rattle.farm_nodes_turn_room.proofs.UnderWay

@@ -1,5 +1,6 @@
 -- What a turn leaves of the journal of a disk, and why it halts: in the room of a pass of a function, and in a room of all.
 use Rattle.std.specs.Prelude.{◌≡◌, ℕ, true, List, Result, IfErr}
+use Rattle.rand_pcg.specs.Lcg.{Lcg}
 use Rattle.durable_model.specs.declared.disk.Disk as disks
 use Rattle.acceptor_log.specs.declared.log.Log.{Log}
 use Rattle.rtl_language.specs.Function.{FunctionData}
@@ -14,7 +15,7 @@ use Rattle.farm_nodes_turn_passes.specs.Numbers.{function_of, pass_of}
 use Rattle.farm_nodes_turn_passes.specs.Offers.{ConstantsOffer, ExpressionsOffer, AllocationOffer, OrderOffer}
 use Rattle.farm_nodes_turn_passes.specs.Texts.{pass_texts, IsOwnTextIn}
 use Rattle.farm_nodes_turn_passes.specs.declared.which.Which.{Which}
-use Rattle.farm_nodes_turn_function.specs.Turned.{IsTooLargeFor, StandsAfter}
+use Rattle.farm_nodes_turn_function.specs.Turned.{DrawsIn, IsTooLargeFor, StandsAfter}
 use Rattle.farm_nodes_turn_function.specs.Turns.{AtPlace, HaltsIn, PlayedIn}
 
 module _ {H : Type 0} {h : naming.Ghosts H} where
@@ -24,9 +25,13 @@ module _ {H : Type 0} {h : naming.Ghosts H} where
       → List (NumberedSeat H h) → List (NumberedSeat H h) → Type 0
   ForRoom room P old new = AtPlace four_of P (function_of room) old new
 
-  -- what stands after a turn in the room that did not fail, at this word of the generator
-  abbrev pub StandsInRoom : ℕ → ℕ → List (NumberedSeat H h) → List (NumberedSeat H h) → Type 0
-  StandsInRoom room word old new = ForRoom room (StandsAfter (pass_of room) word) old new
+  -- what stands after a turn in the room that did not fail, the generator having gone from the one to the other
+  abbrev pub StandsInRoom : ℕ → Lcg → Lcg → List (NumberedSeat H h) → List (NumberedSeat H h) → Type 0
+  StandsInRoom room draws drawn old new = ForRoom room (StandsAfter (pass_of room) draws drawn) old new
+
+  -- what any turn in it draws
+  abbrev pub DrawsInRoom : ℕ → Lcg → Lcg → List (NumberedSeat H h) → List (NumberedSeat H h) → Type 0
+  DrawsInRoom room draws drawn old new = ForRoom room (DrawsIn (pass_of room) draws drawn) old new
 
   module _ {D : Type 0} (disk : disks.Ghosts D) where
     -- a journal on an honest disk that went on stands for what the node keeps behind a turn in the room of this pass, and what

@@ -1,5 +1,7 @@
 -- A turn in the room of one of the four passes of a function.
 use Rattle.std.specs.Prelude.{◌≡◌, ◌<◌, ℕ, false, true, Some, None}
+use Rattle.rand_pcg.specs.Lcg.{Lcg}
+use Rattle.rand_pcg.specs.Pcg.{pcg32}
 use Rattle.offers.specs.declared.parts.Parts.{Parts}
 use Rattle.rtl_language.specs.Function.{FunctionData}
 use Rattle.farm_nodes_turn_passes.specs.ConstPropPass.TheImpl as constants
@@ -10,7 +12,7 @@ use Rattle.farm_nodes_turn_room.specs.Act.TheVariants as asked
 use Rattle.farm_nodes_turn_room.specs.Would.{would}
 use Rattle.farm_nodes_turn_room.specs.SeatValue.{SeatValue, offer_of}
 use Rattle.farm_nodes_turn_room.specs.Quiet.{IsQuiet}
-use Rattle.farm_nodes_turn_room.specs.Leading.{LeadsByLot}
+use Rattle.farm_nodes_turn_room.specs.Leading.{DrawsToLead, HasDrawn, LeadsByLot}
 use Rattle.farm_nodes_turn_room.specs.Played.{IsLearnedOutput, IsMadeOn, StaysInTurn}
 use Rattle.farm_nodes_turn_passes.specs.Offers.{ConstantsOffer, ExpressionsOffer, AllocationOffer, OrderOffer}
 use Rattle.farm_nodes_turn_passes.specs.declared.which.Which.{Which}
@@ -80,13 +82,19 @@ module _ {T1 T2 T3 T4 : Type 0} where
   OthersStay Allocation old new = new ≡ record old { allocation = new.allocation }
   OthersStay Order old new = new ≡ record old { order = new.order }
 
+  -- What a turn draws: where the node had offered, at most the one word to lead; and no ballot is started but by that.
+  abbrev pub DrawsIn : Which → Lcg → Lcg → Four T1 T2 T3 T4 → Four T1 T2 T3 T4 → Type 0
+  DrawsIn pass draws drawn old new = DrawsToLead draws drawn (words_of old pass) (words_of new pass)
+
   -- What stands after a turn that did not fail: the node has offered if it knew the input; nothing is left to accept, to promise
-  -- or to propose; and where it had offered before, it has led if the generator's next word was 0 modulo 4.
-  pub record StandsAfter (pass : Which) (word : ℕ) (old new : Four T1 T2 T3 T4) : Type 0 where
+  -- or to propose; where it had offered before, it has led if the generator's next word was 0 modulo 4; and where it made no offer,
+  -- the generator has drawn that word if the node might start a ballot, and else none.
+  pub record StandsAfter (pass : Which) (draws drawn : Lcg) (old new : Four T1 T2 T3 T4) : Type 0 where
     pub offered : HasInput pass old → (words_of new pass).node.kept.offered ≡ true
     pub quiet : (j : ℕ) → j < (words_of new pass).node.quorums.nodes → IsQuiet j (words_of new pass)
     pub proposed : would (words_of new pass) asked.Propose ≡ None
-    pub led : LeadsByLot word (words_of old pass) (words_of new pass)
+    pub led : LeadsByLot (pcg32 draws).0 (words_of old pass) (words_of new pass)
+    pub has_drawn : HasDrawn draws drawn (words_of old pass) (words_of new pass)
 
 -- what a turn in the room of this pass leaves of a function's seats
 pub record LeavesSeats {A1 A2 A3 A4 A5 C1 C2 C3 C4 : Type 0} (function : A1) (pass : Which)

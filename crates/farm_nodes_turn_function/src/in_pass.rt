@@ -5,13 +5,13 @@ ghost use Rattle.farm_nodes_turn_room.specs.Act.TheVariants as asked;
 ghost use Rattle.farm_nodes_turn_room.specs.Would.{would};
 ghost use Rattle.farm_nodes_turn_room.specs.Served.{IsServed};
 ghost use Rattle.farm_nodes_turn_room.specs.Quiet.{IsQuiet};
-ghost use Rattle.farm_nodes_turn_room.specs.Leading.{LeadsByLot};
+ghost use Rattle.farm_nodes_turn_room.specs.Leading.{DrawsToLead, HasDrawn, LeadsByLot};
 ghost use Rattle.farm_nodes_turn_room.specs.Logged.{HaltsBefore, LogsTurn, MayHaltFor};
 ghost use Rattle.farm_nodes_turn_room.specs.Played.{IsMadeOn, StaysInTurn};
 ghost use Rattle.farm_nodes_turn_passes.specs.Fours.{four_of};
 ghost use Rattle.farm_nodes_turn_passes.specs.Pending.{HasPending};
 ghost use Rattle.farm_nodes_turn_function.specs.InRoom.{HaltsInPass, LogsTurnIn};
-ghost use Rattle.farm_nodes_turn_function.specs.Turned.{HasLearned, IsMadeFrom, IsMadeIn, IsTooLargeFrom};
+ghost use Rattle.farm_nodes_turn_function.specs.Turned.{DrawsIn, HasLearned, IsMadeFrom, IsMadeIn, IsTooLargeFrom};
 ghost use Rattle.farm_nodes_turn_function.specs.Turned.{OthersStay, StandsAfter, StaysIn};
 
 use acceptor_log::Log;
@@ -49,7 +49,9 @@ pub fn play_in<D: Disk, O: Oracles, H: Naming>(
     // An offer of the first pass goes on from the function, one of another from the output learned in the pass before.
     ensures made { IsMadeIn function.now pass (four_of seats.old) (four_of seats.new) }
 
-    ensures after { OnOk result (StandsAfter pass (pcg32 draws.old).0 (four_of seats.old) (four_of seats.new)) }
+    // What stands after it, and what it draws.
+    ensures after { OnOk result (StandsAfter pass draws.old draws.new (four_of seats.old) (four_of seats.new)) }
+    ensures draws { DrawsIn pass draws.old draws.new (four_of seats.old) (four_of seats.new) }
 
     // Where it halts it had not done what is pending.
     ensures left { IfErr result (λ halt. HasPending seats.new room pass halt.pending) }
@@ -118,6 +120,8 @@ fn play_first<D: Disk, P: Pass, O: Oracle<P = P>>(
         → IsQuiet j seat.new.words) }
     ensures proposed { OnOk result (would seat.new.words asked.Propose ≡ None) }
     ensures led { OnOk result (LeadsByLot (pcg32 draws.old).0 seat.old.words seat.new.words) }
+    ensures by_lot { DrawsToLead draws.old draws.new seat.old.words seat.new.words }
+    ensures drawn { OnOk result (HasDrawn draws.old draws.new seat.old.words seat.new.words) }
     ensures left { IfErr result (HaltsBefore P.In.Language P.Out.Language P.Pass room seat.new) }
     ensures journal { LogsTurn D.Disk P.In.Language P.Out.Language P.Pass
         log.old log.new room seat.old seat.new result }
@@ -146,6 +150,8 @@ fn play_behind<D: Disk, B: Pass, P: Pass<In = B::Out>, O: Oracle<P = P>>(
         → IsQuiet j seat.new.words) }
     ensures proposed { OnOk result (would seat.new.words asked.Propose ≡ None) }
     ensures led { OnOk result (LeadsByLot (pcg32 draws.old).0 seat.old.words seat.new.words) }
+    ensures by_lot { DrawsToLead draws.old draws.new seat.old.words seat.new.words }
+    ensures drawn { OnOk result (HasDrawn draws.old draws.new seat.old.words seat.new.words) }
     ensures left { IfErr result (HaltsBefore B.Out.Language P.Out.Language P.Pass room seat.new) }
     ensures journal { LogsTurn D.Disk B.Out.Language P.Out.Language P.Pass
         log.old log.new room seat.old seat.new result }

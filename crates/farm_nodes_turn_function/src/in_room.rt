@@ -1,10 +1,9 @@
 ghost use Rattle.std.specs.Prelude.{◌≡◌, ◌≢◌, ◌<◌, ℕ, length, slice_get, IfOk, IfErr, OnOk};
-ghost use Rattle.rand_pcg.specs.Pcg.{pcg32};
 ghost use Rattle.acceptor_log.specs.Acknowledged.{IsSound};
 ghost use Rattle.farm_nodes_turn_room.specs.Served.{IsServed};
 ghost use Rattle.farm_nodes_turn_passes.specs.Numbers.{function_of, pass_of};
 ghost use Rattle.farm_nodes_turn_passes.specs.Pending.{HavePending};
-ghost use Rattle.farm_nodes_turn_function.specs.InRoom.{ForRoom, HaltsAmong, LogsTurnAmong, StandsInRoom};
+ghost use Rattle.farm_nodes_turn_function.specs.InRoom.{DrawsInRoom, ForRoom, HaltsAmong, LogsTurnAmong, StandsInRoom};
 ghost use Rattle.farm_nodes_turn_function.specs.Turned.{LeavesSeats};
 
 use crate::in_pass::play_in;
@@ -37,7 +36,8 @@ pub fn turn_in<D: Disk, O: Oracles, H: Naming>(
     ensures count { length seats.new.items ≡ length seats.old.items }
 
     ensures leaves { ForRoom room (LeavesSeats function.now (pass_of room)) seats.old.items seats.new.items }
-    ensures after { OnOk result (StandsInRoom room (pcg32 draws.old).0 seats.old.items seats.new.items) }
+    ensures after { OnOk result (StandsInRoom room draws.old draws.new seats.old.items seats.new.items) }
+    ensures draws { DrawsInRoom room draws.old draws.new seats.old.items seats.new.items }
     ensures left { IfErr result (λ halt. HavePending seats.new.items room halt.pending) }
     ensures journal { LogsTurnAmong D.Disk log.old log.new room seats.old.items seats.new.items result }
     ensures cause { HaltsAmong D.Disk function.now log.old log.new room seats.old.items seats.new.items result }

@@ -1,7 +1,6 @@
 -- What a turn of a node leaves and tells: of the node before it and behind it.
 use Rattle.std.specs.Prelude.{◌≡◌, ◌≢◌, ℕ, None, slice_get}
 use Rattle.std.specs.Arc.{arc_value}
-use Rattle.rand_pcg.specs.Pcg.{pcg32}
 use Rattle.durable_model.specs.declared.disk.Disk as disks
 use Rattle.acceptor_log_form.specs.declared.errors.LogError.TheVariants as journal
 use Rattle.farm_nodes_turn_function.specs.Function.{FunctionData}
@@ -10,7 +9,7 @@ use Rattle.farm_nodes_turn_function.specs.Fault.TheVariants as faults
 use Rattle.farm_nodes_turn_function.specs.Fours.{four_of, fours_of, Four}
 use Rattle.farm_nodes_turn_function.specs.Numbers.{function_of, pass_of}
 use Rattle.farm_nodes_turn_function.specs.Offers.{ConstantsOffer, ExpressionsOffer, AllocationOffer, OrderOffer}
-use Rattle.farm_nodes_turn_function.specs.Turned.{IsTooLargeFor, LeavesSeats, StandsAfter}
+use Rattle.farm_nodes_turn_function.specs.Turned.{DrawsIn, IsTooLargeFor, LeavesSeats, StandsAfter}
 use Rattle.farm_nodes_turn_function.specs.Turns.{AtPlace, OfFunction}
 use Rattle.farm_nodes_turn_node.specs.declared.farm_node.FarmNode.{FarmNode}
 use Rattle.farm_nodes_turn_node.specs.declared.turn.Turn.{Turn}
@@ -43,10 +42,12 @@ module _ {D O H : Type 0} {h : naming.Ghosts H} where
     pub program : new.program ≡ old.program
 
   -- Of the room's function other seats are as they were and all rooms keep their number, and an offer that the node makes has the input that
-  -- is asked for. Where the node goes on, it has offered if it knew the input, and nothing is left to promise, to accept or to propose.
+  -- is asked for. Where the node goes on, it has offered if it knew the input, and nothing is left to promise, to accept or to propose. What
+  -- its generator has drawn is said of any turn that it takes.
   pub record LeavesRoom (room : ℕ) (old new : FarmNode D O H h) : Type 0 where
     pub function : old.halted ≡ None → WithFunction room (λ function. LeavesSeats function (pass_of room)) old new
-    pub after : new.halted ≡ None → AtRoom room (StandsAfter (pass_of room) (pcg32 old.draws).0) old new
+    pub after : new.halted ≡ None → AtRoom room (StandsAfter (pass_of room) old.draws new.draws) old new
+    pub draws : old.halted ≡ None → AtRoom room (DrawsIn (pass_of room) old.draws new.draws) old new
 
   module _ (disk : disks.Ghosts D) where
     -- why the turn failed, where it did

@@ -15,7 +15,6 @@ pub use Rattle.farm_nodes_turn_step.specs.Cause
 pub use Rattle.farm_nodes_turn_step.specs.Journalled
 pub use Rattle.farm_nodes_turn_step.specs.Quiet
 pub use Rattle.farm_nodes_turn_step.specs.Served
-pub use Rattle.farm_nodes_turn_step.specs.declared.stop.Stop
 pub use Rattle.rooms.specs.Meeting
 pub use Rattle.rooms.specs.RoomsSeatMeeting
 pub use Rattle.offers.specs.declared.parts.Parts

@@ -5,7 +5,7 @@
 mod halt;
 mod making;
 
-pub use farm_nodes_turn_step::{Pending, Stop, act, hear_all, record_of};
+pub use farm_nodes_turn_step::{Pending, record_of};
 pub use halt::{Fault, Halt};
 pub use making::make_offer;
 pub use rooms::{Seat, WordSeat};

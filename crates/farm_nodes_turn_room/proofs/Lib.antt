@@ -1,4 +1,4 @@
-pub mod Ballots
 pub mod Turns
 pub use Rattle.farm_nodes_turn_offer.proofs.Told
 pub use Rattle.farm_nodes_turn_offer.proofs.Rooms
+pub use Rattle.farm_nodes_turn_leading.proofs.UnderWay

@@ -1,6 +1,8 @@
 -- One call of a turn after another: what stays of a seat, what its offer is, and why it halts.
-use Rattle.std.proofs.Common.{◌≡◌, ◌≢◌, ℕ, zero, suc, ◌≤◌, ◌↔◌, Bool, true, false, eqb, List, [], ◌∷◌, set, get_or-set_other, Option, Some, None, IfSome, Result, Ok, Err, OnOk, OnErr, IfErr, refl, sym, ap, ◌∙◌, subst, arith}
+use Rattle.std.proofs.Common.{◌≡◌, ◌≢◌, inl, ℕ, zero, suc, ◌%◌, ◌≤◌, ◌↔◌, Bool, true, false, cond, eqb, List, [], ◌∷◌, set, get_or-set_other, Option, Some, None, IfSome, Result, Ok, Err, OnOk, OnErr, IfErr, refl, sym, ap, ◌∙◌, subst, arith}
 use Rattle.std.proofs.lemmas.Bool.{eqb-true, eq-eqb}
+use Rattle.rand_pcg.specs.Lcg.{Lcg}
+use Rattle.rand_pcg.specs.Pcg.{pcg32}
 use Rattle.durable_model.specs.Honest.{risen_within}
 use Rattle.acceptor_log_form.specs.declared.errors.LogError.{LogError}
 use Rattle.acceptor_log_form.specs.declared.errors.LogError.TheVariants as log
@@ -18,7 +20,8 @@ use Rattle.farm_nodes_turn_offer.specs.Cause.{HasCause}
 use Rattle.farm_nodes_turn_offer.specs.FarmNodesTurnStepPending.{Pending}
 use Rattle.farm_nodes_turn_offer.specs.FarmNodesTurnStepPending.TheVariants.{Act, Offer}
 use Rattle.farm_nodes_turn_offer.specs.Noted.{IsActAmong}
-use Rattle.farm_nodes_turn_room.specs.Leading.{StaysInRoom}
+use Rattle.farm_nodes_turn_leading.specs.Leading.{StaysInRoom, IsOldOrStarted, may_start, drawn_to_lead, DrawsOneOrNone, DrawsToLead, HasDrawn, OffersNone, StartsByLot}
+use Rattle.farm_nodes_turn_leading.proofs.UnderWay.{way_through}
 use Rattle.farm_nodes_turn_offer.specs.declared.halt.Fault.{Fault}
 use Rattle.farm_nodes_turn_offer.specs.declared.halt.Fault.TheVariants as fault
 use Rattle.farm_nodes_turn_offer.proofs.Results.{Grown}
@@ -48,6 +51,7 @@ held_same s t e = record {
   quorums = ap (λ u. u.words.node.quorums) e;
   learned = ap (λ u. u.words.node.learned) e;
   offered = λ o. ap (λ u. u.words.node.kept.offered) e ∙ o;
+  under_way = (ap (λ u. u.words.node.kept.started) e, ap (λ u. u.words.node.ballot) e);
   seen = seen_same s t e;
   run = goes_to s.words t.words (ap (λ u. u.words) e);
 }
@@ -68,6 +72,7 @@ held_offered x s t has room = record {
   quorums = ap (λ (u : SeatState). u.node.quorums) has.words;
   learned = ap (λ (u : SeatState). u.node.learned) has.words;
   offered = λ o. ap (λ (u : SeatState). u.node.kept.offered) has.words;
+  under_way = (ap (λ (u : SeatState). u.node.kept.started) has.words, ap (λ (u : SeatState). u.node.ballot) has.words);
   seen = λ j y is. own_or x s t j y (eqb j s.words.node.me) refl has is;
   run = subst (λ (u : SeatState). GoesOn s.words u) (sym has.words) (goes_offering s.words);
 }
@@ -83,6 +88,7 @@ stays_on {T} s m t held remains sights = record {
   quorums = remains.quorums ∙ held.quorums;
   learned = λ v e. remains.learned v (held.learned ∙ e);
   offered = λ o. remains.offered ∙ held.offered o;
+  under_way = way_through s.words.node m.words.node t.words.node (inl held.under_way) remains.under_way;
   seen = λ j x is. ap (λ (ss : List (SightOf T)). value_at ss j) sights ∙ held.seen j x is;
   run = goes_through s.words m.words t.words held.run remains.run;
 }
@@ -94,7 +100,7 @@ stays_taking {T} s m w v ss is held remains =
     (subst (λ (u : SeatValue T). HeldOffer s u) (sym is) held) remains refl
 
 pub stays_held : {T : Type 0} (s t : SeatValue T) → HeldOffer s t → StaysInTurn s t
-stays_held s t held = record { room = held.room; me = held.me; quorums = held.quorums; learned = λ v e. held.learned ∙ e; offered = held.offered; seen = held.seen; run = held.run }
+stays_held s t held = record { room = held.room; me = held.me; quorums = held.quorums; learned = λ v e. held.learned ∙ e; offered = held.offered; under_way = inl held.under_way; seen = held.seen; run = held.run }
 
 -- and looking at a cell the words
 pub stays_seeing : {T : Type 0} (s m t : SeatValue T) → StaysInTurn s m → t.words ≡ m.words → IsOneRoom m t → SeesOn m t → StaysInTurn s t
@@ -104,6 +110,7 @@ stays_seeing s m t stays words room seen = record {
   quorums = ap (λ (u : SeatState). u.node.quorums) words ∙ stays.quorums;
   learned = λ v e. ap (λ (u : SeatState). u.node.learned) words ∙ stays.learned v e;
   offered = λ o. ap (λ (u : SeatState). u.node.kept.offered) words ∙ stays.offered o;
+  under_way = subst (λ (u : SeatState). IsOldOrStarted s.words.node u.node) (sym words) stays.under_way;
   seen = λ j x is. seen j x (stays.seen j x is);
   run = subst (λ (u : SeatState). GoesOn s.words u) (sym words) stays.run;
 }
@@ -127,6 +134,38 @@ seen_or {T} j i old new x false e read is =
 
 pub seen_read : {T : Type 0} (j : ℕ) (s t : SeatValue T) → Read j s.sights t.sights → SeesOn s t
 seen_read j s t read i x is = seen_or j i s.sights t.sights x (eqb i j) refl read is
+
+-- ---- what it draws
+
+module _ {T : Type 0} (s m : SeatValue T) (w v : SeatState) (ss : List (SightOf T)) (is : record { words = w; sights = ss } ≡ m) (held : HeldOffer s m)
+    (before between behind : Lcg) where
+  held_words : HeldOffer s record { words = w; sights = ss }
+  held_words = subst (λ (u : SeatValue T). HeldOffer s u) (sym is) held
+
+  -- taking part behind an offer, or behind none
+  pub lots_taking : (s.words.node.kept.offered ≡ true → between ≡ before) → StartsByLot (pcg32 between).0 w v → DrawsOneOrNone between behind
+      → DrawsToLead before behind s.words v
+  lots_taking none lot once = record {
+    started = λ changed.
+        let by = lot (λ (e : v.node.kept.started ≡ w.node.kept.started). changed (e ∙ held_words.under_way.0)) in (
+          ap (λ (o : Option ℕ). may_start (record v.node { ballot = o })) (sym held_words.under_way.1) ∙ by.0,
+          λ o. ap (λ (g : Lcg). (pcg32 g).0 % 4) (sym (none o)) ∙ by.1 (held_words.offered o),
+        );
+    once = λ o. subst (λ (g : Lcg). DrawsOneOrNone g behind) (none o) once;
+  }
+
+  pub drawn_taking : (w.node.kept.offered ≡ s.words.node.kept.offered → between ≡ before) → v.node.kept.offered ≡ w.node.kept.offered
+      → behind ≡ drawn_to_lead between w v → HasDrawn before behind s.words v
+  drawn_taking none same drawn no_offer =
+      drawn ∙ (ap (λ (o : Option ℕ). cond (may_start (record v.node { ballot = o })) (pcg32 between).1 between) held_words.under_way.1
+      ∙ ap (λ (g : Lcg). drawn_to_lead g s.words v) (none (sym same ∙ no_offer)))
+
+-- an offer that was made
+pub drawn_offering : {A T : Type 0} (r : Result A Halt) (x : T) (s t : SeatValue T) (draws drawn : Lcg) → s.words.node.kept.offered ≡ false
+    → OnOk r (PutsOffer x s t) → OnOk r (OffersNone s.words t.words → drawn ≡ draws)
+drawn_offering (Ok a) x s t draws drawn first has =
+    λ none. let both : true ≡ false = sym (offered_now x s t has) ∙ (none ∙ first) in absurd (cc)
+drawn_offering (Err h) x s t draws drawn first has = tt
 
 -- ---- its offer
 
@@ -262,3 +301,11 @@ module _ {A : Type 0} (P : Halt → Type 0) where
 
   pub if_halted : (r : Result A Halt) (h k : Halt) → r ≡ Err h → h ≡ k → P k → IfErr r P
   if_halted r h k e same holds = subst (λ (x : Result A Halt). IfErr x P) (sym e) (subst (λ (x : Halt). P x) (sym same) holds)
+
+module _ {A : Type 0} (P : Type 0) where
+  pub on_result : (r : Result A Halt) → P → OnOk r P
+  on_result (Ok a) p = p
+  on_result (Err h) p = tt
+
+  pub on_halt : (r : Result A Halt) (h : Halt) → r ≡ Err h → OnOk r P
+  on_halt r h e = subst (λ (x : Result A Halt). OnOk x P) (sym e) tt

@@ -1,7 +1,6 @@
-pub mod Leading
-pub mod Acting
 pub mod Played
 pub mod Logged
+pub use Rattle.farm_nodes_turn_leading.specs.Leading
 pub use Rattle.farm_nodes_turn_offer.specs.OfRun
 pub use Rattle.farm_nodes_turn_offer.specs.JournalAdvances
 pub use Rattle.farm_nodes_turn_offer.specs.Quiet

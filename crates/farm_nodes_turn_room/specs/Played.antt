@@ -12,6 +12,7 @@ use Rattle.farm_nodes_turn_offer.specs.declared.halt.Fault.TheVariants.{NoMemory
 use Rattle.farm_nodes_turn_offer.specs.declared.halt.Halt.{Halt}
 use Rattle.farm_nodes_turn_offer.specs.Halted.{HasLeft, left_over}
 use Rattle.farm_nodes_turn_offer.specs.Told.{TellNew}
+use Rattle.farm_nodes_turn_leading.specs.Leading.{HasStartedNone, IsOldOrStarted}
 use Rattle.farm_nodes_turn_room.specs.declared.progress.Progress.{Progress}
 use Rattle.farm_nodes_turn_room.specs.declared.progress.Progress.TheVariants.{Learned, Moved, Idle}
 
@@ -55,16 +56,19 @@ pub record HeldOffer {T : Type 0} (old new : SeatValue T) : Type 0 where
   pub quorums : new.words.node.quorums ≡ old.words.node.quorums
   pub learned : new.words.node.learned ≡ old.words.node.learned
   pub offered : old.words.node.kept.offered ≡ true → new.words.node.kept.offered ≡ true
+  pub under_way : HasStartedNone old.words.node new.words.node
   pub seen : SeesOn old new
   pub run : GoesOn old.words new.words
 
--- what a turn leaves of a seat: the room, its node, its offer, and what it had learned and seen; it goes on in its run
+-- what a turn leaves of a seat: the room, its node, its offer, what it had learned and seen, and the ballot under way but for one that it
+-- started; it goes on in its run
 pub record StaysInTurn {T : Type 0} (old new : SeatValue T) : Type 0 where
   pub room : IsOneRoom old new
   pub me : new.words.node.me ≡ old.words.node.me
   pub quorums : new.words.node.quorums ≡ old.words.node.quorums
   pub learned : (v : ℕ) → old.words.node.learned ≡ Some v → new.words.node.learned ≡ Some v
   pub offered : old.words.node.kept.offered ≡ true → new.words.node.kept.offered ≡ true
+  pub under_way : IsOldOrStarted old.words.node new.words.node
   pub seen : SeesOn old new
   pub run : GoesOn old.words new.words
 

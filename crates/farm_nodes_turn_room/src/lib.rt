@@ -5,17 +5,13 @@
 
 mod choosing;
 mod input;
-mod leading;
 mod offering;
 mod playing;
 mod progress;
-mod taking_part;
 
 pub use choosing::choose;
 pub use farm_nodes_turn_offer::{Fault, Halt, Seat};
 pub use input::learned_output;
-pub use leading::lead;
 pub use offering::offer_on;
 pub use playing::play;
 pub use progress::Progress;
-pub use taking_part::take_part;

@@ -1,6 +1,7 @@
 ghost use Rattle.std.specs.Prelude.{◌≡◌, true, IfOk, IfErr, OnOk, IsSome, option_copied};
 ghost use Rattle.acceptor_log.specs.Acknowledged.{IsSound};
 ghost use Rattle.farm_nodes_turn_offer.specs.Served.{IsServed};
+ghost use Rattle.farm_nodes_turn_leading.specs.Leading.{OffersNone};
 ghost use Rattle.farm_nodes_turn_room.specs.Logged.{HaltsBefore, HaltsOver, LogsSteps};
 ghost use Rattle.farm_nodes_turn_room.specs.Played.{HeldOffer, IsMadeOn};
 
@@ -26,7 +27,10 @@ pub fn offer_on<D: Disk, P: Pass, O: Oracle<P = P>>(
     ensures served { IsServed D.is_honest D.seen D.may_leave D.faults log.old log.new }
     ensures going { IfOk result (λ moved. log.new.going ≡ log.old.going) }
     ensures seat { HeldOffer seat.old seat.new }
+
+    // Words are drawn for an offer alone.
     ensures words { seat.old.words.node.kept.offered ≡ true → draws.new ≡ draws.old }
+    ensures drawn { OnOk result (OffersNone seat.old.words seat.new.words → draws.new ≡ draws.old) }
 
     // The offer has the input, and it is made wherever there is one.
     ensures made { IsMadeOn (option_copied input.entry) seat.old seat.new }

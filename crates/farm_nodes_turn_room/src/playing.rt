@@ -6,15 +6,15 @@ ghost use Rattle.rooms_seat_state.specs.Would.{would};
 ghost use Rattle.farm_nodes_turn_offer.specs.SeatValue.{IsOneRoom};
 ghost use Rattle.farm_nodes_turn_offer.specs.Served.{IsServed};
 ghost use Rattle.farm_nodes_turn_offer.specs.Quiet.{IsQuiet};
-ghost use Rattle.farm_nodes_turn_room.specs.Leading.{LeadsByLot};
+ghost use Rattle.farm_nodes_turn_leading.specs.Leading.{DrawsToLead, HasDrawn, LeadsByLot};
 ghost use Rattle.farm_nodes_turn_room.specs.Logged.{HaltsBefore, HaltsOver, LogsSteps, LogsTurn};
 ghost use Rattle.farm_nodes_turn_room.specs.Played.{IsMadeOn, SeesOn, StaysInTurn};
 
 use crate::offering::offer_on;
 use crate::progress::Progress;
-use crate::taking_part::take_part;
 use acceptor_log::Log;
 use durable_model::Disk;
+use farm_nodes_turn_leading::take_part;
 use farm_nodes_turn_offer::{Halt, Seat};
 use lang_base::{Language, Oracle, Pass};
 use rand_pcg::Pcg32;
@@ -45,6 +45,10 @@ pub fn play<D: Disk, P: Pass, O: Oracle<P = P>>(
     ensures quiet { OnOk result ((j : ℕ) → j < seat.new.words.node.quorums.nodes → IsQuiet j seat.new.words) }
     ensures proposed { OnOk result (would seat.new.words asked.Propose ≡ None) }
     ensures led { OnOk result (LeadsByLot (pcg32 draws.old).0 seat.old.words seat.new.words) }
+
+    // It starts no ballot without cause; and but for an offer it draws a word where it might start, else none.
+    ensures by_lot { DrawsToLead draws.old draws.new seat.old.words seat.new.words }
+    ensures drawn { OnOk result (HasDrawn draws.old draws.new seat.old.words seat.new.words) }
 
     // Where it halts it had not done what is pending: an act asked of a node of the room, or its offer.
     ensures left { IfErr result (HaltsBefore P.In.Language P.Out.Language P.Pass room seat.new) }
@@ -83,6 +87,8 @@ fn take_steps<D: Disk, P: Pass, O: Oracle<P = P>>(
     ensures quiet { OnOk result ((j : ℕ) → j < seat.new.words.node.quorums.nodes → IsQuiet j seat.new.words) }
     ensures proposed { OnOk result (would seat.new.words asked.Propose ≡ None) }
     ensures led { OnOk result (LeadsByLot (pcg32 draws.old).0 seat.old.words seat.new.words) }
+    ensures by_lot { DrawsToLead draws.old draws.new seat.old.words seat.new.words }
+    ensures drawn { OnOk result (HasDrawn draws.old draws.new seat.old.words seat.new.words) }
     ensures left { IfErr result (HaltsBefore P.In.Language P.Out.Language P.Pass room seat.new) }
     ensures journal { LogsSteps D.Disk P.In.Language P.Out.Language P.Pass
         log.old log.new room seat.old seat.new result }

@@ -54,6 +54,9 @@ returns-in-Err-list-clause-any_moment g c whole only rs can =
 pub returns-in-Err-list-clause-refused : goal.returns-in-Err-list-clause-refused
 returns-in-Err-list-clause-refused g c whole memory device = absurd (memory (c.in-Err-list.ensures.faults (c.in-Ok.ensures.ready whole)))
 
+pub returns-in-Err-list-clause-stays : goal.returns-in-Err-list-clause-stays
+returns-in-Err-list-clause-stays g c whole only memory device = absurd (memory (c.in-Err-list.ensures.faults (c.in-Ok.ensures.ready whole)))
+
 pub returns-in-Err-list-clause-unwritten : goal.returns-in-Err-list-clause-unwritten
 returns-in-Err-list-clause-unwritten g c whole device =
     let ready = c.in-Ok.ensures.ready whole in

@@ -30,7 +30,7 @@ returns-in-Err-open_old g c =
     (λ p is. g.met.P.Pair.honest_whole p is) (λ is. c.old_disk.ensures.any_moment is) (λ is. c.in-Ok-Counts.ensures.synced is)
     (λ is. subst (λ (found : OldDisk). IsOldDisk (g.P.Pair.old_seen c.args.pair) found) c.in-Ok-Counts.field-0-is (c.in-Ok-Counts.ensures.told is))
     (c.old_disk.ensures.unfailed (λ bad. let both = sym c.in-Ok-Counts.is ∙ bad in absurd (cc)))
-    c.in-Err-open_old.refused.0 c.in-Err-open_old.refused.1 o.whole o.refused o.unwritten o.any_moment o.failed o.unfailed_refused
+    c.in-Err-open_old.refused.0 c.in-Err-open_old.refused.1 o.whole o.refused o.unwritten o.any_moment o.stays o.failed o.unfailed_refused
 
 pub returns-in-Ok-open_journal : goal.returns-in-Ok-open_journal
 returns-in-Ok-open_journal g c =

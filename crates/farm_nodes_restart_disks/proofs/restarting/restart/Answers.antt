@@ -109,9 +109,9 @@ returns-in-Err-clause-refused g c =
             cause = cause;
             own = λ left.
                 own_fault pass_texts disk.is_honest disk.seen disk.may_leave c.args.node.log seats c.args.node.halted
-                im.0 c.requires.asked.0 left.honest (law.new_is_left at im.0 left.honest left.both.0) c.in-Err.fault
+                im.0 c.requires.asked.0 left.honest (law.new_is_left at im.0 left.honest left.shows.left.0) c.in-Err.fault
                 (cause_of pass_texts c.args.node.log.header (4 * length seats) seats (room_in c.args.node.halted) (left_by c.args.node.halted) im c.in-Err.fault
-                (law.honest_spent at im.1 left.honest left.both.1)
+                (left.shows.spent (law.honest_spent at left.shows.old left.honest left.shows.left.1))
                 (subst (λ (n : ℕ). HasCauseOn pass_texts c.args.node.log.header (4 * n) seats (room_in c.args.node.halted) (left_by c.args.node.halted) im c.in-Err.fault)
                 (sym (length-map c.args.node.seats.items four_of)) cause));
           };

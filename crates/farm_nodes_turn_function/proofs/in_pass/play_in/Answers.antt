@@ -1,7 +1,6 @@
--- Why `play_in` meets its clauses `served`, `going`, `stays`, `made` and 5 more, and it may call `play_behind`.
+-- Why `play_in` meets its clauses `served`, `going`, `stays`, `made` and 6 more, and it may call `play_behind`.
 use denote.Param.Send.{sendable}
 use Rattle.std.proofs.Common.{◌≡◌, true, refl}
-use Rattle.rand_pcg.specs.Pcg.{pcg32}
 use Rattle.farm_nodes_turn_passes.specs.Fours.{four_of}
 use Rattle.farm_nodes_turn_passes.specs.declared.which.Which.TheVariants.{Constants, Expressions, Allocation, Order}
 use Rattle.farm_nodes_turn_passes.proofs.Sent.{function_send, function_sync}
@@ -24,10 +23,13 @@ pub returns-in-Constants-clause-after : goal.returns-in-Constants-clause-after
 returns-in-Constants-clause-after g c =
     let old = four_of c.args.seats.now in
     rw c.in-Constants.is
-    (stands_after c.play_first.result Constants (pcg32 c.args.draws.now).0 old (record old { constants = c.play_first.new.seat })
+    (stands_after c.play_first.result Constants c.args.draws.now c.play_first.new.draws old (record old { constants = c.play_first.new.seat })
     (on_ok c.play_first.result (c.play_first.new.seat.words.node.kept.offered ≡ true)
     (Unit {0} → c.play_first.new.seat.words.node.kept.offered ≡ true)
-    (λ offered known. offered) c.play_first.ensures.offered) c.play_first.ensures.quiet c.play_first.ensures.proposed c.play_first.ensures.led)
+    (λ offered known. offered) c.play_first.ensures.offered) c.play_first.ensures.quiet c.play_first.ensures.proposed c.play_first.ensures.led c.play_first.ensures.drawn)
+
+pub returns-in-Constants-clause-draws : goal.returns-in-Constants-clause-draws
+returns-in-Constants-clause-draws g c = rw c.in-Constants.is c.play_first.ensures.by_lot
 
 pub returns-in-Constants-clause-left : goal.returns-in-Constants-clause-left
 returns-in-Constants-clause-left g c = rw c.in-Constants.is c.play_first.ensures.left
@@ -54,8 +56,11 @@ pub returns-in-Expressions-clause-after : goal.returns-in-Expressions-clause-aft
 returns-in-Expressions-clause-after g c =
     let old = four_of c.args.seats.now in
     rw c.in-Expressions.is
-    (stands_after c.play_behind.result Expressions (pcg32 c.args.draws.now).0 old (record old { expressions = c.play_behind.new.seat })
-    c.play_behind.ensures.offered c.play_behind.ensures.quiet c.play_behind.ensures.proposed c.play_behind.ensures.led)
+    (stands_after c.play_behind.result Expressions c.args.draws.now c.play_behind.new.draws old (record old { expressions = c.play_behind.new.seat })
+    c.play_behind.ensures.offered c.play_behind.ensures.quiet c.play_behind.ensures.proposed c.play_behind.ensures.led c.play_behind.ensures.drawn)
+
+pub returns-in-Expressions-clause-draws : goal.returns-in-Expressions-clause-draws
+returns-in-Expressions-clause-draws g c = rw c.in-Expressions.is c.play_behind.ensures.by_lot
 
 pub returns-in-Expressions-clause-left : goal.returns-in-Expressions-clause-left
 returns-in-Expressions-clause-left g c = rw c.in-Expressions.is c.play_behind.ensures.left
@@ -82,8 +87,11 @@ pub returns-in-Allocation-clause-after : goal.returns-in-Allocation-clause-after
 returns-in-Allocation-clause-after g c =
     let old = four_of c.args.seats.now in
     rw c.in-Allocation.is
-    (stands_after c.play_behind-in-Allocation.result Allocation (pcg32 c.args.draws.now).0 old (record old { allocation = c.play_behind-in-Allocation.new.seat })
-    c.play_behind-in-Allocation.ensures.offered c.play_behind-in-Allocation.ensures.quiet c.play_behind-in-Allocation.ensures.proposed c.play_behind-in-Allocation.ensures.led)
+    (stands_after c.play_behind-in-Allocation.result Allocation c.args.draws.now c.play_behind-in-Allocation.new.draws old (record old { allocation = c.play_behind-in-Allocation.new.seat })
+    c.play_behind-in-Allocation.ensures.offered c.play_behind-in-Allocation.ensures.quiet c.play_behind-in-Allocation.ensures.proposed c.play_behind-in-Allocation.ensures.led c.play_behind-in-Allocation.ensures.drawn)
+
+pub returns-in-Allocation-clause-draws : goal.returns-in-Allocation-clause-draws
+returns-in-Allocation-clause-draws g c = rw c.in-Allocation.is c.play_behind-in-Allocation.ensures.by_lot
 
 pub returns-in-Allocation-clause-left : goal.returns-in-Allocation-clause-left
 returns-in-Allocation-clause-left g c = rw c.in-Allocation.is c.play_behind-in-Allocation.ensures.left
@@ -110,8 +118,11 @@ pub returns-in-Order-clause-after : goal.returns-in-Order-clause-after
 returns-in-Order-clause-after g c =
     let old = four_of c.args.seats.now in
     rw c.in-Order.is
-    (stands_after c.play_behind-in-Order.result Order (pcg32 c.args.draws.now).0 old (record old { order = c.play_behind-in-Order.new.seat })
-    c.play_behind-in-Order.ensures.offered c.play_behind-in-Order.ensures.quiet c.play_behind-in-Order.ensures.proposed c.play_behind-in-Order.ensures.led)
+    (stands_after c.play_behind-in-Order.result Order c.args.draws.now c.play_behind-in-Order.new.draws old (record old { order = c.play_behind-in-Order.new.seat })
+    c.play_behind-in-Order.ensures.offered c.play_behind-in-Order.ensures.quiet c.play_behind-in-Order.ensures.proposed c.play_behind-in-Order.ensures.led c.play_behind-in-Order.ensures.drawn)
+
+pub returns-in-Order-clause-draws : goal.returns-in-Order-clause-draws
+returns-in-Order-clause-draws g c = rw c.in-Order.is c.play_behind-in-Order.ensures.by_lot
 
 pub returns-in-Order-clause-left : goal.returns-in-Order-clause-left
 returns-in-Order-clause-left g c = rw c.in-Order.is c.play_behind-in-Order.ensures.left

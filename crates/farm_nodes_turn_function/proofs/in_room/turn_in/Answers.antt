@@ -1,6 +1,5 @@
--- Why `turn_in` meets its clauses `others`, `count`, `leaves`, `after` and 5 more.
+-- Why `turn_in` meets its clauses `others`, `count`, `leaves`, `after` and 6 more.
 use Rattle.std.proofs.Common.{◌≡◌, ℕ, ◌<◌, length, set, length-set, sym, ◌∙◌, subst}
-use Rattle.rand_pcg.specs.Pcg.{pcg32}
 use Rattle.farm_nodes_turn_passes.specs.Halt.{Halt}
 use Rattle.farm_nodes_turn_passes.specs.Halted.{left_over, HasHaltCause}
 use Rattle.farm_nodes_turn_passes.specs.declared.which.Which.{Which}
@@ -9,7 +8,7 @@ use Rattle.farm_nodes_turn_passes.specs.Pending.{HasPending, HavePending}
 use Rattle.farm_nodes_turn_room.specs.Played.{Played}
 use Rattle.farm_nodes_turn_passes.specs.Fours.{four_of, words_of}
 use Rattle.farm_nodes_turn_passes.specs.Texts.{pass_texts, IsOwnTextIn}
-use Rattle.farm_nodes_turn_function.specs.Turned.{IsTooLargeFor, LeavesSeats, StandsAfter}
+use Rattle.farm_nodes_turn_function.specs.Turned.{DrawsIn, IsTooLargeFor, LeavesSeats, StandsAfter}
 use Rattle.farm_nodes_turn_function.specs.Turns.{AtPlace, HaltsIn, PlayedIn}
 use Rattle.farm_nodes_turn_function.proofs.Inputs.{if_err, on_ok}
 use Rattle.farm_nodes_turn_function.proofs.Pending.{with_all}
@@ -35,14 +34,23 @@ returns-clause-after g c =
     let old = four_of c.in-Some.four.now in
     let new = four_of c.play_in.new.seats in
     let pass = c.of_room.result in
-    let word = (pcg32 c.args.draws.now).0 in
-    on_ok c.play_in.result (StandsAfter pass word old new)
-    (AtPlace four_of (StandsAfter (pass_of c.args.room) word) (function_of c.args.room) c.args.seats.now.items (set c.args.seats.now.items c.from.result c.play_in.new.seats))
+    let draws = c.args.draws.now in
+    let drawn = c.play_in.new.draws in
+    on_ok c.play_in.result (StandsAfter pass draws drawn old new)
+    (AtPlace four_of (StandsAfter (pass_of c.args.room) draws drawn) (function_of c.args.room) c.args.seats.now.items (set c.args.seats.now.items c.from.result c.play_in.new.seats))
     (λ after.
-    place_set four_of (StandsAfter (pass_of c.args.room) word) c.args.seats.now.items c.from.result (function_of c.args.room)
+    place_set four_of (StandsAfter (pass_of c.args.room) draws drawn) c.args.seats.now.items c.from.result (function_of c.args.room)
     c.in-Some.four.now c.play_in.new.seats c.from.ensures c.in-Some.ensures.value
-    (subst (λ (p : Which). StandsAfter p word old new) c.of_room.ensures after))
+    (subst (λ (p : Which). StandsAfter p draws drawn old new) c.of_room.ensures after))
     c.play_in.ensures.after
+
+pub returns-clause-draws : goal.returns-clause-draws
+returns-clause-draws g c =
+    let draws = c.args.draws.now in
+    let drawn = c.play_in.new.draws in
+    place_set four_of (DrawsIn (pass_of c.args.room) draws drawn) c.args.seats.now.items c.from.result (function_of c.args.room)
+    c.in-Some.four.now c.play_in.new.seats c.from.ensures c.in-Some.ensures.value
+    (subst (λ (p : Which). DrawsIn p draws drawn (four_of c.in-Some.four.now) (four_of c.play_in.new.seats)) c.of_room.ensures c.play_in.ensures.draws)
 
 pub returns-clause-journal : goal.returns-clause-journal
 returns-clause-journal g c honest going =

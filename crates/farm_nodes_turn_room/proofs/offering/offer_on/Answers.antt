@@ -1,4 +1,4 @@
--- Why `offer_on` meets its clauses `made`, `journal` and `left`.
+-- Why `offer_on` meets its clauses `made`, `drawn`, `journal` and `left`.
 use Rattle.std.proofs.Common.{rules, ◌≡◌, false, option_copied, refl, sym, ap, subst}
 use Rattle.acceptor_log.specs.Acknowledged.{acknowledged}
 use Rattle.offers.specs.Text.{text_of}
@@ -7,13 +7,18 @@ use Rattle.farm_nodes_turn_offer.specs.Halted.{HasLeft, left_over}
 use Rattle.farm_nodes_turn_offer.proofs.Leavings.{idle_grown, nothing_left, tell_none}
 use Rattle.farm_nodes_turn_offer.specs.Pending.{IsOfferText}
 use Rattle.farm_nodes_turn_offer.specs.Told.{IsOwnText}
-use Rattle.farm_nodes_turn_room.proofs.Turns.{left_offering, made_either}
+use Rattle.farm_nodes_turn_room.proofs.Turns.{drawn_offering, left_offering, made_either}
 use Rattle.farm_nodes_turn_room.proofs.offering.offer_on.Goals as goal
 
 pub returns-in-Ok-clause-made : goal.returns-in-Ok-clause-made
 returns-in-Ok-clause-made g c =
     made_either c.make_offer.result (option_copied c.args.input) c.in-Some.input.now c.in-Ok.offer c.args.seat.now c.make_offer.new.seat
     (ap option_copied c.in-Some.is) c.in-Ok.ensures.input c.make_offer.ensures.ok c.make_offer.ensures.err
+
+pub returns-in-Ok-clause-drawn : goal.returns-in-Ok-clause-drawn
+returns-in-Ok-clause-drawn g c =
+    let first : c.args.seat.now.words.node.kept.offered ≡ false = search rules in
+    drawn_offering c.make_offer.result c.in-Ok.offer c.args.seat.now c.make_offer.new.seat c.args.draws.now c.choose.new.draws first c.make_offer.ensures.ok
 
 pub returns-in-Err-clause-journal : goal.returns-in-Err-clause-journal
 returns-in-Err-clause-journal g c honest going =

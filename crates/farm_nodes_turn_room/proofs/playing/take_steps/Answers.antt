@@ -1,5 +1,5 @@
--- Why `take_steps` meets its clauses `stays`, `made`, `journal`, `left` and 1 more.
-use Rattle.std.proofs.Common.{◌||◌, option_copied, Some, sym, ◌∙◌, subst}
+-- Why `take_steps` meets its clauses `stays`, `made`, `by_lot`, `drawn` and 3 more.
+use Rattle.std.proofs.Common.{◌≡◌, ◌||◌, option_copied, Some, sym, ◌∙◌, subst}
 use Rattle.acceptor_log.specs.Acknowledged.{acknowledged}
 use Rattle.farm_nodes_turn_offer.proofs.Results.{Grown, grown_on}
 use Rattle.farm_nodes_turn_offer.specs.declared.halt.Halt.{Halt}
@@ -8,8 +8,9 @@ use Rattle.farm_nodes_turn_offer.specs.Halted.{fault_by_journal, left_over, HasH
 use Rattle.farm_nodes_turn_offer.specs.Pending.{IsOfferText, MayPendOn}
 use Rattle.farm_nodes_turn_offer.specs.Told.{IsOwnText, TellNew}
 use Rattle.farm_nodes_turn_offer.proofs.Leavings.{halt_cause, left_after, told_after}
+use Rattle.farm_nodes_turn_leading.specs.Leading.{HasDrawn, OffersNone}
 use Rattle.farm_nodes_turn_room.specs.Played.{IsTooLarge}
-use Rattle.farm_nodes_turn_room.proofs.Turns.{if_halted, if_went_on, later_cause, left_acting, made_taking, own_taking, recorded_err, recorded_ok, seat_is, stays_taking}
+use Rattle.farm_nodes_turn_room.proofs.Turns.{drawn_taking, if_halted, if_went_on, later_cause, left_acting, lots_taking, made_taking, on_halt, on_result, own_taking, recorded_err, recorded_ok, seat_is, stays_taking}
 use Rattle.farm_nodes_turn_room.proofs.playing.take_steps.Goals as goal
 use Rattle.farm_nodes_turn_room.proofs.playing.take_steps.Goals.{in-Ok-take_part, in-Err-take_part}
 
@@ -22,6 +23,27 @@ pub returns-clause-made : goal.returns-clause-made
 returns-clause-made g c =
     made_taking (option_copied c.args.input) c.args.seat.now c.offer_on.new.seat c.seat.inside.words c.take_part.new.seat c.seat.inside.sights c.seat.view_is
     c.offer_on.ensures.made c.take_part.ensures.remains
+
+pub returns-clause-by_lot : goal.returns-clause-by_lot
+returns-clause-by_lot g c =
+    lots_taking c.args.seat.now c.offer_on.new.seat c.seat.inside.words c.take_part.new.seat c.seat.inside.sights c.seat.view_is
+    c.offer_on.ensures.seat c.args.draws.now c.offer_on.new.draws c.take_part.new.draws
+    c.offer_on.ensures.words c.take_part.ensures.started c.take_part.ensures.once
+
+pub returns-clause-drawn : goal.returns-clause-drawn
+returns-clause-drawn g c =
+    let s = c.args.seat.now.words in
+    let m = c.seat.inside.words in
+    let t = c.take_part.new.seat in
+    let none = seat_is (λ u. OffersNone s u.words → c.offer_on.new.draws ≡ c.args.draws.now) c.offer_on.new.seat m c.seat.inside.sights c.seat.view_is c.in-Ok.ensures.drawn in
+    let P = HasDrawn c.args.draws.now c.take_part.new.draws s t in
+    elim c.match-take_part.branch [
+      | in-Ok-take_part w ↦
+          on_result P c.match-take_part.result
+          (drawn_taking c.args.seat.now c.offer_on.new.seat m t c.seat.inside.sights c.seat.view_is c.offer_on.ensures.seat
+          c.args.draws.now c.offer_on.new.draws c.take_part.new.draws none c.take_part.ensures.remains.offered w.in-Ok-take_part.ensures.drawn)
+      | in-Err-take_part w ↦ on_halt P c.match-take_part.result w.stopped.result w.result-is
+    ]
 
 pub returns-clause-journal : goal.returns-clause-journal
 returns-clause-journal g c honest going =

@@ -86,6 +86,7 @@ returns-in-Ok-clause-leaves g c = record {
       let made = c.turn_in.ensures.leaves x y p q in
       rw (c.function_in.ensures named (rw c.deref.ensures is)) at made;
   after = λ was. c.in-Ok.ensures.after;
+  draws = λ was. c.turn_in.ensures.draws;
 }
 
 pub returns-in-Err-clause-leaves : goal.returns-in-Err-clause-leaves
@@ -94,12 +95,14 @@ returns-in-Err-clause-leaves g c = record {
       let made = c.turn_in.ensures.leaves x y p q in
       rw (c.function_in.ensures named (rw c.deref.ensures is)) at made;
   after = λ e. absurd (cc);
+  draws = λ was. c.turn_in.ensures.draws;
 }
 
 pub returns-then-is_some-clause-leaves : goal.returns-then-is_some-clause-leaves
 returns-then-is_some-clause-leaves g c = record {
   function = λ was. absurd (not_none c.args.self.now.halted (sym c.is_some.ensures ∙ c.if-is_some.true) was);
   after = λ was. absurd (not_none c.args.self.now.halted (sym c.is_some.ensures ∙ c.if-is_some.true) was);
+  draws = λ was. absurd (not_none c.args.self.now.halted (sym c.is_some.ensures ∙ c.if-is_some.true) was);
 }
 
 pub returns-in-Ok-clause-tells : goal.returns-in-Ok-clause-tells

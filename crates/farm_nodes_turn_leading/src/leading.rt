@@ -5,15 +5,17 @@ ghost use Rattle.rand_pcg.specs.Pcg.{pcg32};
 ghost use Rattle.acceptor_log.specs.Acknowledged.{IsSound};
 ghost use Rattle.rooms_seat_state.specs.declared.act.Act.TheVariants as asked;
 ghost use Rattle.rooms_seat_state.specs.Would.{would};
-ghost use Rattle.farm_nodes_turn_offer.specs.Noted.{IsActAmong};
-ghost use Rattle.farm_nodes_turn_offer.specs.Served.{IsServed};
-ghost use Rattle.farm_nodes_turn_offer.specs.Quiet.{IsQuiet};
-ghost use Rattle.farm_nodes_turn_room.specs.Acting.{LogsActs, MayStopFor};
-ghost use Rattle.farm_nodes_turn_room.specs.Leading.{may_start, is_passed, LeadsByLot, LeavesAll, StartsByLot};
+ghost use Rattle.farm_nodes_turn_step.specs.Noted.{IsActAmong};
+ghost use Rattle.farm_nodes_turn_step.specs.Served.{IsServed};
+ghost use Rattle.farm_nodes_turn_step.specs.Quiet.{IsQuiet};
+ghost use Rattle.farm_nodes_turn_leading.specs.Acting.{LogsActs, MayStopFor};
+ghost use Rattle.farm_nodes_turn_leading.specs.Leading.{may_start, is_passed, LeadsByLot, LeavesAll, StartsByLot};
+ghost use Rattle.farm_nodes_turn_leading.specs.Leading.{drawn_to_lead, DrawsOneOrNone};
 
 use acceptor_log::Log;
 use durable_model::Disk;
-use farm_nodes_turn_offer::{Stop, WordSeat, act};
+use farm_nodes_turn_order::WordSeat;
+use farm_nodes_turn_step::{Stop, act};
 use rand_core::utils::NextWord;
 use rand_pcg::Pcg32;
 use rooms_seat_state::act::Act;
@@ -36,8 +38,10 @@ pub fn lead<D: Disk>(
     ensures quiet { (j : ℕ) → IsQuiet j seat.old → IsQuiet j seat.new }
     ensures led { OnOk result (LeadsByLot (pcg32 draws.old).0 seat.old seat.new) }
 
-    // It starts no ballot without cause.
+    // It starts no ballot without cause, and draws a word where it might start, else none.
     ensures started { StartsByLot (pcg32 draws.old).0 seat.old seat.new }
+    ensures drawn { OnOk result (draws.new ≡ drawn_to_lead draws.old seat.old seat.new) }
+    ensures once { DrawsOneOrNone draws.old draws.new }
 
     ensures acting { IfErr result (λ stop. IsActAmong seat.new.node.quorums.nodes stop.pending) }
     ensures journal { LogsActs D.Disk log.old log.new room seat.old seat.new result }

@@ -1,8 +1,9 @@
--- Why `lead` meets its clauses `quiet`, `leaves`, `started` and `journal`.
-use Rattle.std.proofs.Common.{rules, Bool, sym, ◌∙◌, subst}
-use Rattle.farm_nodes_turn_offer.proofs.Results.{Grown, grown_on, stops_after}
-use Rattle.farm_nodes_turn_room.proofs.Ballots.{quiet_led, leaves_proposing, leaves_same, leaves_starting, leaves_through, start_proposing}
-use Rattle.farm_nodes_turn_room.proofs.leading.lead.Goals as goal
+-- Why `lead` meets its clauses `quiet`, `leaves`, `started`, `drawn`, `once` and `journal`.
+use Rattle.std.proofs.Common.{rules, ℕ, Bool, true, false, refl, sym, ap, ◌∙◌, subst}
+use Rattle.rand_pcg.specs.Lcg.{Lcg}
+use Rattle.farm_nodes_turn_step.proofs.Results.{Grown, grown_on, stops_after}
+use Rattle.farm_nodes_turn_leading.proofs.Ballots.{drawn_if, quiet_led, leaves_proposing, leaves_same, leaves_starting, leaves_through, might_led, start_proposing}
+use Rattle.farm_nodes_turn_leading.proofs.leading.lead.Goals as goal
 
 pub returns-then-not-may_start-clause-quiet : goal.returns-then-not-may_start-clause-quiet
 returns-then-not-may_start-clause-quiet g c j quiet =
@@ -36,9 +37,31 @@ returns-in-Ok-act-clause-leaves g c =
 
 pub returns-in-Ok-act-clause-started : goal.returns-in-Ok-act-clause-started
 returns-in-Ok-act-clause-started g c changed = (
-  sym (start_proposing c.args.seat.now c.act.new.seat c.in-Ok.ensures.ok.1) ∙ (sym c.may_start.ensures ∙ c.if-not-may_start.false),
-  search rules,
+  might_led c.args.seat.now c.act-2.new.seat
+      (leaves_through c.args.seat.now c.act.new.seat c.act-2.new.seat (leaves_proposing c.args.seat.now c.act.new.seat c.in-Ok.ensures.ok.1)
+      (leaves_starting c.act.new.seat c.act-2.new.seat (sym c.may_start.ensures ∙ c.if-not-may_start.false) c.in-Ok-act.ensures.ok.1))
+      ∙ (sym (start_proposing c.args.seat.now c.act.new.seat c.in-Ok.ensures.ok.1) ∙ (sym c.may_start.ensures ∙ c.if-not-may_start.false)),
+  λ offered. search rules,
 )
+
+pub returns-then-not-may_start-clause-drawn : goal.returns-then-not-may_start-clause-drawn
+returns-then-not-may_start-clause-drawn g c =
+    drawn_if c.args.draws.now c.args.draws.now c.args.seat.now c.act.new.seat false (leaves_proposing c.args.seat.now c.act.new.seat c.in-Ok.ensures.ok.1)
+    (sym (start_proposing c.args.seat.now c.act.new.seat c.in-Ok.ensures.ok.1) ∙ (sym c.may_start.ensures ∙ c.if-not-may_start.true)) refl
+
+pub returns-then-next_word-ne0-clause-drawn : goal.returns-then-next_word-ne0-clause-drawn
+returns-then-next_word-ne0-clause-drawn g c =
+    drawn_if c.args.draws.now c.next_word.new.self c.args.seat.now c.act.new.seat true (leaves_proposing c.args.seat.now c.act.new.seat c.in-Ok.ensures.ok.1)
+    (sym (start_proposing c.args.seat.now c.act.new.seat c.in-Ok.ensures.ok.1) ∙ (sym c.may_start.ensures ∙ c.if-not-may_start.false))
+    (ap (λ (p : ℕ × Lcg). p.1) c.next_word.ensures)
+
+pub returns-in-Ok-act-clause-drawn : goal.returns-in-Ok-act-clause-drawn
+returns-in-Ok-act-clause-drawn g c =
+    drawn_if c.args.draws.now c.next_word.new.self c.args.seat.now c.act-2.new.seat true
+    (leaves_through c.args.seat.now c.act.new.seat c.act-2.new.seat (leaves_proposing c.args.seat.now c.act.new.seat c.in-Ok.ensures.ok.1)
+    (leaves_starting c.act.new.seat c.act-2.new.seat (sym c.may_start.ensures ∙ c.if-not-may_start.false) c.in-Ok-act.ensures.ok.1))
+    (sym (start_proposing c.args.seat.now c.act.new.seat c.in-Ok.ensures.ok.1) ∙ (sym c.may_start.ensures ∙ c.if-not-may_start.false))
+    (ap (λ (p : ℕ × Lcg). p.1) c.next_word.ensures)
 
 pub returns-in-Ok-act-clause-journal : goal.returns-in-Ok-act-clause-journal
 returns-in-Ok-act-clause-journal g c honest going =

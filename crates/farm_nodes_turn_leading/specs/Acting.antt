@@ -3,10 +3,10 @@ use Rattle.std.specs.Prelude.{◌≡◌, ℕ, Bool, true, Result, IfErr}
 use Rattle.durable_model.specs.declared.disk.Disk as disks
 use Rattle.acceptor_log.specs.declared.log.Log.{Log}
 use Rattle.rooms_seat_state.specs.SeatState.{SeatState}
-use Rattle.farm_nodes_turn_offer.specs.Stop.{Stop}
-use Rattle.farm_nodes_turn_offer.specs.Cause.{HasCause}
-use Rattle.farm_nodes_turn_offer.specs.Journalled.{Journalled}
-use Rattle.farm_nodes_turn_offer.specs.Noted.{pending_of}
+use Rattle.farm_nodes_turn_step.specs.declared.stop.Stop.{Stop}
+use Rattle.farm_nodes_turn_step.specs.Cause.{HasCause}
+use Rattle.farm_nodes_turn_step.specs.Journalled.{Journalled}
+use Rattle.farm_nodes_turn_step.specs.Noted.{pending_of}
 
 module _ {D : Type 0} (disk : disks.Ghosts D) where
   -- a journal on an honest disk that went on stands for what the node keeps behind the call
