@@ -1,13 +1,12 @@
 -- What a branch asks, and what native code asks for it.
-use Rattle.std.proofs.Common.{◌≡◌, ℕ, Bool, true, false, not, List, [], ◌∷◌, Option, Some, None, refl, sym, ap, ◌∙◌, arith}
-use Rattle.std.specs.Prelude.{nat_eq}
+use Rattle.std.proofs.Common.{◌≡◌, ℕ, Bool, [], ◌∷◌, Option, Some, None, refl, arith}
 use Rattle.std.specs.Option.{option_map}
 use Rattle.ints.specs.CondTable.{cond_table}
 use Rattle.ints.specs.Conditions.{cond_argument_count_of}
 use Rattle.ints.specs.declared.conditions.Cond.{Cond}
 use Rattle.ints.specs.declared.conditions.Cond.TheVariants.{Nz, Eq, Ne, LtS, LtU, LeS, LeU}
 use Rattle.machine.specs.Acts.{pair_of}
-use Rattle.machine.specs.declared.arguments.Arguments.TheVariants.{One, Two}
+use Rattle.machine.specs.declared.arguments.Arguments.TheVariants.{Two}
 use Rattle.x86_state.specs.Tables.{condition_table}
 use Rattle.native_lowering_definition.specs.Blocks.{Around, tests, jumps_if}
 use Rattle.native_lowering_definition.specs.Facts.{Facts, known, answered_for}

@@ -1,6 +1,6 @@
 -- A branch is a comparison and a jump, or a jump alone where the flags tell already.
-use Rattle.std.proofs.Common.{◌≡◌, ℕ, suc, ◌+◌, ◌<◌, Bool, true, false, not, List, [], ◌∷◌, length, Option, Some, None, refl, sym, ap, subst, ◌∙◌, arith}
-use Rattle.std.specs.Prelude.{slice_get, slice_index, nat_eq, if◌then◌else◌}
+use Rattle.std.proofs.Common.{◌≡◌, ℕ, suc, ◌+◌, ◌<◌, Bool, true, false, not, [], ◌∷◌, length, Option, Some, None, refl, sym, ap, subst, ◌∙◌, arith}
+use Rattle.std.specs.Prelude.{slice_get, slice_index, nat_eq}
 use Rattle.std.specs.Option.{option_map}
 use Rattle.std.proofs.lemmas.Bool.{eqb-true}
 use Rattle.ints.specs.CondTable.{cond_table}
@@ -25,10 +25,9 @@ use Rattle.x86_syntax.specs.declared.instruction.Instruction.{Instruction as Nat
 use Rattle.x86_syntax.specs.declared.instruction.Instruction.TheVariants.{CompareWith}
 use Rattle.x86_state.specs.State.{State as Native, Step, Goes, word}
 use Rattle.x86_state.specs.Tables.{condition_table}
-use Rattle.x86.specs.Comparing.{asked}
 use Rattle.x86.specs.Meaning.{instruction_step}
-use Rattle.native_lowering_definition.specs.Blocks.{Around, block, branches, tests, jumps_if}
-use Rattle.native_lowering_definition.specs.Facts.{Facts, known, answered_for, answer_of, condition_if, after_test, without_flag}
+use Rattle.native_lowering_definition.specs.Blocks.{block, branches, jumps_if}
+use Rattle.native_lowering_definition.specs.Facts.{Facts, known, answered_for, answer_of, condition_if, after_test}
 use Rattle.native_lowering_definition.specs.Frames.{frame_of}
 use Rattle.native_lowering_definition.specs.Kinds.{condition_of}
 use Rattle.native_lowering_definition.specs.Layout.{facts_in, place_in}
@@ -40,7 +39,7 @@ use Rattle.native_lowering_relation.specs.Knowing.{Answers, IsSo}
 use Rattle.native_lowering_relation.specs.Related.{Related}
 use Rattle.native_lowering_relation.proofs.Agreeing.{agree_at, word_is}
 use Rattle.native_lowering_relation.proofs.Knowing.{knows_at, knows_word, so_without}
-use Rattle.native_lowering_walks.specs.Walks.{then as onward, steps, walks, GoesBelow, GoStraight}
+use Rattle.native_lowering_walks.specs.Walks.{then as onward, steps, walks, GoesBelow}
 use Rattle.native_lowering_walks.proofs.Straight.{compare_below, compare_with_below}
 use Rattle.native_lowering_runs.specs.Reaching.{Reaches}
 use Rattle.native_lowering_runs.proofs.Below.{goes_below, goes_to_label}

@@ -1,5 +1,5 @@
 -- A label is one step, and so is a jump.
-use Rattle.std.proofs.Common.{◌≡◌, ℕ, ◌+◌, Bool, true, false, List, [], ◌∷◌, Option, Some, None, refl, sym, ap, ◌∙◌, arith}
+use Rattle.std.proofs.Common.{◌≡◌, ℕ, ◌+◌, Bool, true, false, [], ◌∷◌, Option, Some, refl, ap, ◌∙◌}
 use Rattle.std.specs.Prelude.{slice_get, if◌then◌else◌}
 use Rattle.std.specs.Option.{option_map, is_some}
 use Rattle.lang_base.specs.declared.program.Program.{Program}
@@ -9,16 +9,14 @@ use Rattle.linear_language.specs.Function.{FunctionData}
 use Rattle.linear_language.specs.Labels.{place_of as linear_place_of}
 use Rattle.x86_syntax.specs.Labels.{place_of}
 use Rattle.x86_syntax.specs.declared.condition.Condition.{Condition}
-use Rattle.x86_syntax.specs.declared.instruction.Instruction.{Instruction}
 use Rattle.x86_syntax.specs.declared.instruction.Instruction.TheVariants.{Label, Jump, JumpIf, Stop, StopIf}
-use Rattle.x86_state.specs.State.{State as Native, Step, Goes, Stops}
-use Rattle.x86_state.specs.Tables.{condition_table}
+use Rattle.x86_state.specs.State.{State as Native, Goes, Stops}
 use Rattle.x86.specs.Comparing.{asked}
 use Rattle.x86.specs.Jumping.{jumps as native_jumps, takes_if}
 use Rattle.x86.specs.Meaning.{instruction_step}
-use Rattle.native_lowering_definition.specs.Blocks.{Around, has_label, jumps, jumps_if}
+use Rattle.native_lowering_definition.specs.Blocks.{has_label, jumps, jumps_if}
 use Rattle.native_lowering_definition.specs.Frames.{frame_of}
-use Rattle.native_lowering_definition.specs.Layout.{facts_in, place_in}
+use Rattle.native_lowering_definition.specs.Layout.{place_in}
 use Rattle.native_lowering_definition.specs.Lowering.{around_of, lowered, code_of}
 use Rattle.native_lowering_layout.proofs.Labels.{label_in}
 use Rattle.native_lowering_relation.specs.Related.{Related}

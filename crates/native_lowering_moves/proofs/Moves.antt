@@ -1,12 +1,12 @@
 -- A move between a register and a slot, or two registers, is one step.
-use Rattle.std.proofs.Common.{◌≡◌, ℕ, ◌+◌, ◌<◌, List, [], ◌∷◌, length, Option, Some, None, refl, sym, ap, subst, ◌∙◌, arith}
-use Rattle.std.specs.Prelude.{slice_get, slice_index, slice_index_or, slice_set}
+use Rattle.std.proofs.Common.{◌≡◌, ℕ, ◌+◌, ◌<◌, List, [], ◌∷◌, length, Option, Some, None, refl, sym, ap, subst, ◌∙◌}
+use Rattle.std.specs.Prelude.{slice_get, slice_index, slice_set}
 use Rattle.std.specs.Option.{option_map}
 use Rattle.lang_base.specs.declared.program.Program.{Program}
 use Rattle.locations.specs.declared.location.Location.{Location}
 use Rattle.locations.specs.declared.location.Location.TheVariants.{InRegister, InSlot}
 use Rattle.locations.specs.declared.location.Move.{Move}
-use Rattle.machine.specs.Data.{Data, value_at, put_at, moved}
+use Rattle.machine.specs.Data.{Data, value_at, moved}
 use Rattle.machine.specs.Fits.{LocationFits, HasRegister, MoveFits}
 use Rattle.machine.specs.Frames.{State}
 use Rattle.linear_language.specs.declared.instruction.Instruction.TheVariants as l

@@ -1,0 +1,4 @@
+pub mod Gaps
+pub mod Changes
+pub mod Faults
+pub mod Holding
