@@ -1,0 +1,2 @@
+pub mod StagedOffer
+pub mod Chosen

@@ -1,0 +1,3 @@
+pub mod One
+pub mod Two
+pub mod Acts

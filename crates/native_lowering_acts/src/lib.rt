@@ -1,0 +1,2 @@
+//! Each instruction of Linear that goes on to the next leads to a native state that stands for that.
+#![tactic(auto)]

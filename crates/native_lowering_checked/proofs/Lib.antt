@@ -1,0 +1,3 @@
+pub mod Passing
+pub mod Shifting
+pub mod Dividing

@@ -1,0 +1,4 @@
+pub mod Keeping
+pub mod Fetching
+pub mod Receiving
+pub mod Opening

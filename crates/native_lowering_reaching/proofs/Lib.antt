@@ -1,0 +1,4 @@
+pub mod Testing
+pub mod Loads
+pub mod Stores
+pub mod Prints

@@ -1,0 +1,2 @@
+//! The blocks that read and write cells of globals, and that print.
+#![tactic(auto)]
