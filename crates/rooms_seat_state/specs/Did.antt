@@ -1,4 +1,4 @@
--- What a call of a seat does: one word step, and with it at most one step of the protocol and an offer.
+-- What a call of a seat does: at most one step of the protocol, and with a proposal an offer.
 use Rattle.std.specs.Prelude.{◌≡◌, ◌≢◌, ℕ, [], Option, Some, slice_set}
 use Rattle.paxos_core_node_steps.specs.NodeState.{restarted}
 use Rattle.paxos_core_node_steps.specs.Would.{after_act}
@@ -31,7 +31,7 @@ pub record LookedAtAcceptor (j : ℕ) (x : AcceptorWord) (old new : SeatState) :
   pub below : AcceptorNotBelow x.promised x.accepted (acceptor_of old j).promised (acceptor_of old j).accepted
   pub own : j ≡ old.node.me → (x.promised ≡ old.node.kept.promised) × (x.accepted ≡ old.node.kept.accepted)
 
--- the seat did what it was asked by one store; p is then what its node has proposed under the ballot started last
+-- the seat did what it was asked; p is then what its node has proposed under the ballot started last
 pub record Did (a : Act) (p : Option ℕ) (old new : SeatState) : Type 0 where
   pub took : Took a old.view new.view
   pub after : new ≡ record old { view = new.view; node = after_act old.node a; proposed = p }

@@ -52,7 +52,7 @@ ProposesNoMore act.Start told s = told ≢ None → would s act.Propose ≡ None
 ProposesNoMore act.Propose told s = would s act.Propose ≡ None
 ProposesNoMore other told s = Unit {0}
 
--- the seat was asked: it took the step that it told, by one store of an own word, and if it told none it is as it was
+-- the seat was asked: it took the step that it told, and if it told none it is as it was
 pub record Acted (a : Act) (old new : SeatState) : Type 0 where
   pub stepped : IfSome (would old a) (λ s. Did (act_of s) (proposed_by_step s old.proposed) old new)
   pub idle : would old a ≡ None → new ≡ old

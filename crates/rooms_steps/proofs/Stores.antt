@@ -1,6 +1,6 @@
 -- The stores keep the rule, and tell what they tell.
-use Rattle.std.proofs.Common.{◌≡◌, ℕ, ◌<◌, ◌≤◌, Bool, true, false, cond, leb, eqb, List, [], ◌∷◌, ◌++◌, Option, Some, None, IfSome, refl, sym, ap, ◌∙◌, subst, inl, inr}
-use Rattle.std.proofs.lemmas.Bool.{le-leb, eqb-true, eq-eqb, cond-true}
+use Rattle.std.proofs.Common.{◌≡◌, ℕ, ◌<◌, ◌≤◌, Bool, true, false, not, cond, leb, eqb, List, [], ◌∷◌, ◌++◌, Option, Some, None, IfSome, refl, sym, ap, ◌∙◌, subst, inl, inr}
+use Rattle.std.proofs.lemmas.Bool.{and_parts, le-leb, eqb-true, eq-eqb, cond-true}
 use mathlib.Core.Option.{none}
 use Rattle.atomic_table.specs.Table.{Me, step, Allows}
 use Rattle.paxos_core_world.specs.KeptPart.{KeptPart, with_promise, with_vote}
@@ -24,7 +24,7 @@ use Rattle.rooms_words.specs.Would.{after_act, taken_by_act}
 use Rattle.rooms_words.specs.Act.{Act}
 use Rattle.rooms_words.specs.Act.TheVariants as act
 use Rattle.rooms_words.proofs.WorldLemmas.{grows_by}
-use Rattle.rooms_words.specs.LateOffer.{unoffered, BelongsWithLateOffer, TakesLate, owes_offer, taken_late_by_propose}
+use Rattle.rooms_words.specs.LateOffer.{unoffered, BelongsWithLateOffer, TakesLate, owes_offer, proposes_own, taken_late_by_propose}
 use Rattle.rooms_words.proofs.LateLemmas.{offers_may_be_late}
 use Rattle.rooms_words.specs.Words.{promised_in, accepted_in, IsProposerWord, IsAcceptorWord}
 use Rattle.rooms_words.specs.declared.event.Event.{Event}
@@ -259,7 +259,7 @@ module _ {S : Type 0} (o : Opening) (slots id : ℕ) (me : Me S View) (number : 
       → Allows (RoomRule o) slots id me (proposer_at me.0.node.me) (λ _. number) (λ _. ProposeStore (step slots (proposer_at me.0.node.me) number 0 none) me number)
   stores_proposal b v is word =
       stores_proposer o slots id me number act.Propose (proposal me.0.node) seated (after_proposal me.0.node) same_me refl (λ w. taken_late_by_propose w me.0.node)
-      (λ w. taken_if (owes_offer w me.0.node)) (λ w i k h. quiet_if (owes_offer w me.0.node) w i k h)
+      (λ w. taken_if w (owes_offer w me.0.node) refl) (λ w i k h. quiet_if (owes_offer w me.0.node) w i k h)
       (λ w r h. offers_may_be_late.propose me.0.node me.0.opening.quorums w r h)
       (λ w before h. is_here (owes_offer w me.0.node) w before (subst (λ (x : NodeState). BelongsWithLateOffer me.0.opening.quorums (reached w (taken_late_by_propose w me.0.node)) x) refl h))
     where
@@ -272,9 +272,10 @@ module _ {S : Type 0} (o : Opening) (slots id : ℕ) (me : Me S View) (number : 
       labels : taken_by_propose me.0.node ≡ Proposes b v ∷ []
       labels = ap (λ (x : Option (ℕ × ℕ)). proposes (propose_message x)) own
 
-      taken_if : (t : Bool) → AreTakenBy me.0.node act.Propose (cond t (taken_by_propose me.0.node ++ Offers me.0.node.me ∷ []) (taken_by_propose me.0.node))
-      taken_if true = inr (refl, refl)
-      taken_if false = inl refl
+      taken_if : (w : World) (t : Bool) → owes_offer w me.0.node ≡ t
+          → AreTakenBy me.0.node act.Propose (cond t (taken_by_propose me.0.node ++ Offers me.0.node.me ∷ []) (taken_by_propose me.0.node))
+      taken_if w true owes = inr (refl, (and_parts (proposes_own me.0.node) (not (w.nodes me.0.node.me).offered) owes).0, refl)
+      taken_if w false owes = inl refl
 
       quiet_if : (t : Bool) (w : World) (i k : ℕ) → IsAcceptorOf w i k → IsAcceptorOf (reached w (cond t (taken_by_propose me.0.node ++ Offers me.0.node.me ∷ []) (taken_by_propose me.0.node))) i k
       quiet_if true w i k h = subst (λ (ls : List Label). IsAcceptorOf (reached w (ls ++ Offers me.0.node.me ∷ [])) i k) (sym labels) (acceptor_kept w (Offers me.0.node.me) i k tt h)

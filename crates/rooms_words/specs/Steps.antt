@@ -1,5 +1,5 @@
 -- What each kind of word step tells the seat that takes it.
-use Rattle.std.specs.Prelude.{◌≡◌, ℕ, ◌<◌, ◌⊎◌, List, [], ◌∷◌, ◌++◌, IfSome}
+use Rattle.std.specs.Prelude.{◌≡◌, ℕ, ◌<◌, ◌⊎◌, true, List, [], ◌∷◌, ◌++◌, IfSome}
 use Rattle.atomic_table.specs.Table.{Step, Me}
 use Rattle.paxos_core_world.specs.Step.{Label, Offers}
 use Rattle.paxos_core.specs.NodeState.{NodeState, restarted}
@@ -8,7 +8,7 @@ use Rattle.paxos_core.specs.Takes.{AreStepsOf}
 use Rattle.paxos_core.specs.Would.{after_act, taken_by_act}
 use Rattle.paxos_core.specs.Act.{Act}
 use Rattle.paxos_core.specs.Act.TheVariants as act
-use Rattle.paxos_core.specs.LateOffer.{BelongsWithLateOffer}
+use Rattle.paxos_core.specs.LateOffer.{BelongsWithLateOffer, proposes_own}
 use Rattle.rooms_words.specs.Words.{promised_in, accepted_in}
 use Rattle.rooms_words.specs.declared.event.Event.{Event}
 use Rattle.rooms_words.specs.declared.view.View.{View}
@@ -30,9 +30,13 @@ pub record Advances (v : View) (steps : List Label) (t : NodeState) (w : View) :
   pub stays : w ≡ record v { seen = w.seen; node = t }
   pub belongs : BelongsWithLateOffer v.opening.quorums (world_after v.opening w.seen) t
 
+-- those of a proposal of its own number, with its offer before it
+abbrev pub AreWithOffer : NodeState → Act → List Label → Type 0
+AreWithOffer s a steps = (a ≡ act.Propose) × (proposes_own s ≡ true) × (steps ≡ taken_by_act s a ++ Offers s.me ∷ [])
+
 -- the steps of an act of the node: its own and, with a proposal of its own number, at most its offer before it
 abbrev pub AreTakenBy : NodeState → Act → List Label → Type 0
-AreTakenBy s a steps = (steps ≡ taken_by_act s a) ⊎ ((a ≡ act.Propose) × (steps ≡ taken_by_act s a ++ Offers s.me ∷ []))
+AreTakenBy s a steps = (steps ≡ taken_by_act s a) ⊎ AreWithOffer s a steps
 
 -- the seat did what it was asked
 pub record Took (a : Act) (v w : View) : Type 0 where
