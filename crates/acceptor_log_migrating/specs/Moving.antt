@@ -48,8 +48,8 @@ module _ {P : Type 0} (disk : disks.Ghosts P) (pair : pairs.Ghosts P) where
       → LeavesOnly disk.moment pair.both_since given now (IsMigrating h rs (pair.old_seen given))
 
   -- where it was refused for the old journal's sake it leaves that
-  abbrev pub Stays : P → P → LogError → Type 0
-  Stays given now e =
+  abbrev pub RefusalKeepsOld : P → P → LogError → Type 0
+  RefusalKeepsOld given now e =
       Only (pair.old_seen given) (pair.old_may given) → e ≢ NoMemory → e ≢ Device
       → LeavesOnly disk.moment pair.both_since given now (HasOld (pair.old_seen given))
 

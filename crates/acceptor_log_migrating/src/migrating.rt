@@ -4,7 +4,7 @@ ghost use Rattle.std.specs.Prelude.{◌≡◌, ◌≢◌, ◌<◌, ◌≤◌, �
 ghost use Rattle.durable_model.specs.Honest.{Risen};
 ghost use Rattle.acceptor_log.specs.Acknowledged.{IsReady};
 ghost use Rattle.acceptor_log.specs.Faults.{log_fault};
-ghost use Rattle.acceptor_log_migrating.specs.Moving.{disk_back, IsRefusedFor, IsTurned, HasMigrated, IsLaid, Moves, Stays, IsUnwritten};
+ghost use Rattle.acceptor_log_migrating.specs.Moving.{disk_back, IsRefusedFor, IsTurned, HasMigrated, IsLaid, Moves, RefusalKeepsOld, IsUnwritten};
 
 use crate::turning::turn;
 use acceptor_log::Log;
@@ -30,7 +30,7 @@ pub fn migrate<P: Pair>(alloc: Global, pair: P, header: &Header) -> Result<Log<P
     ensures any_moment { P.is_whole pair → Moves P.Disk P.Pair.own header.now pair (disk_back result) }
 
     // It does not give up by itself, and what it gives up for the old journal's sake it wrote nothing for.
-    ensures stays { P.is_whole pair → IfErr result (λ refused. Stays P.Disk P.Pair.own pair refused.0 refused.1) }
+    ensures stays { P.is_whole pair → IfErr result (λ refused. RefusalKeepsOld P.Disk P.Pair.own pair refused.0 refused.1) }
     ensures refused { P.is_whole pair → IfErr result (λ refused. IsRefusedFor header.now (P.old_seen pair) refused.1) }
     ensures unwritten { P.is_whole pair
         → IfErr result (λ refused. IsUnwritten P.Disk P.Pair.own pair refused.0 refused.1) }
@@ -63,7 +63,7 @@ fn carry_over<P: Pair>(alloc: Global, header: &Header, pair: &mut P) -> Result<L
     ensures fewer { IfOk result (λ laid. laid.count ≤ laid.gate) }
     ensures turned { P.is_whole pair.old → OnOk result (IsTurned P.Pair.own pair.old pair.new) }
     ensures any_moment { P.is_whole pair.old → Moves P.Disk P.Pair.own header.now pair.old pair.new }
-    ensures stays { P.is_whole pair.old → IfErr result (Stays P.Disk P.Pair.own pair.old pair.new) }
+    ensures stays { P.is_whole pair.old → IfErr result (RefusalKeepsOld P.Disk P.Pair.own pair.old pair.new) }
     ensures refused { P.is_whole pair.old → IfErr result (IsRefusedFor header.now (P.old_seen pair.old)) }
     ensures unwritten { P.is_whole pair.old → IfErr result (IsUnwritten P.Disk P.Pair.own pair.old pair.new) }
     ensures failed { result ≡ Err LogError.Device → Risen (P.faults pair.old) (P.faults pair.new) }

@@ -22,7 +22,7 @@ use Rattle.cfarm_judge.specs.Under.{HasNone, IsUnder}
 use Rattle.cfarm_judge.proofs.Bytes.{passed_wants}
 use Rattle.cfarm_judge.proofs.Under.{none_under, one_under}
 use Rattle.cfarm_judge.specs.Passes.{IsPassedAt}
-use Rattle.cfarm_judge.specs.Told.{HasSmallFunctions, begun_of, IsJudged, IsOfText, IsTold, IsWant}
+use Rattle.cfarm_judge.specs.Told.{HasSmallFunctions, begun_of, IsJudged, IsOfText, IsUnjudged, IsWant}
 use Rattle.cfarm_judge.specs.declared.error.JudgeError.{JudgeError}
 use Rattle.cfarm_judge.specs.declared.error.JudgeError.TheVariants as judge
 
@@ -34,7 +34,7 @@ module _ (text name offer : List ℕ) (u : UnitTree) (is : IsAccepted text u) (t
   small : HasSmallFunctions u
   small = subst (λ t. All HasFewNodes (low t).functions) of few
 
-  pub text_has_none : HasNone begun.functions name → IsTold text name offer judge.NoFunction
+  pub text_has_none : HasNone begun.functions name → IsUnjudged text name offer judge.NoFunction
   text_has_none none = (u, is, small, subst (λ fs. HasNone fs name) begins none)
 
   of_text : (f : FunctionData) → IsUnder begun.functions name f → IsOfText text name offer f
@@ -43,7 +43,7 @@ module _ (text name offer : List ℕ) (u : UnitTree) (is : IsAccepted text u) (t
   pub judged_by : (f : FunctionData) (pass : PassNumber) → IsUnder begun.functions name f → IsPassedAt f offer pass → IsJudged text name offer pass
   judged_by f pass named passed = record { function = f; of_text = of_text f named; passed = passed }
 
-  pub unjudged_by : (f : FunctionData) (e : JudgeError) → IsUnder begun.functions name f → IsNotJudged f offer e → IsTold text name offer e
+  pub unjudged_by : (f : FunctionData) (e : JudgeError) → IsUnder begun.functions name f → IsNotJudged f offer e → IsUnjudged text name offer e
   unjudged_by f judge.NoMemory named told = tt
   unjudged_by f (judge.Source fault) named told = absurd told
   unjudged_by f judge.NoFunction named told = absurd told

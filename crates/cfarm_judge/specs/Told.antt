@@ -47,12 +47,12 @@ module _ (text name offer : List ℕ) where
     pub passed : IsPassedAt function offer pass
 
   -- The first of these that holds. That memory was refused says nothing.
-  abbrev pub IsTold : JudgeError → Type 0
-  IsTold NoMemory = Unit {0}
-  IsTold (Source fault) = IsUnprepared text fault
-  IsTold NoFunction = (u : UnitTree) × IsAccepted text u × HasSmallFunctions u × HasNone (begun_of u) name
-  IsTold Write = (pass : PassNumber) × IsJudged pass
-  IsTold other = (f : FunctionData) × IsOfText f × IsNotJudged f offer other
+  abbrev pub IsUnjudged : JudgeError → Type 0
+  IsUnjudged NoMemory = Unit {0}
+  IsUnjudged (Source fault) = IsUnprepared text fault
+  IsUnjudged NoFunction = (u : UnitTree) × IsAccepted text u × HasSmallFunctions u × HasNone (begun_of u) name
+  IsUnjudged Write = (pass : PassNumber) × IsJudged pass
+  IsUnjudged other = (f : FunctionData) × IsOfText f × IsNotJudged f offer other
 
   -- the pass was printed
   abbrev pub HasJudged : Option (List ℕ) → Option (List ℕ) → Type 0

@@ -3,7 +3,7 @@
 ghost use Rattle.std.specs.Prelude.{◌≡◌, OnOk, IfOk, IfErr};
 ghost use Rattle.std.specs.String.{string_bytes};
 ghost use Rattle.cfarm_judge.specs.Lines.{accepted_line};
-ghost use Rattle.cfarm_judge.specs.Told.{HasJudged, IsJudged, IsTold, IsWant, Printed};
+ghost use Rattle.cfarm_judge.specs.Told.{HasJudged, IsJudged, IsUnjudged, IsWant, Printed};
 ghost use Rattle.bundle_offers.specs.declared.fault.PassNumber.{PassNumber};
 
 use crate::error::JudgeError;
@@ -23,7 +23,7 @@ fn accepting(
     offer: &[u8],
 ) -> Result<PassNumber, JudgeError>
     ensures judged { IfOk result (IsJudged text.now name.now offer.now) }
-    ensures refused { IfErr result (IsTold text.now name.now offer.now) }
+    ensures refused { IfErr result (IsUnjudged text.now name.now offer.now) }
     ensures only { (pass : PassNumber) → IsJudged text.now name.now offer.now pass → IfErr result IsWant }
 {
     let source = match prepare(alloc, text) {
@@ -64,7 +64,7 @@ pub fn judge<W: Write>(
     ensures judged { OnOk result (HasJudged text.now name.now offer.now (W.contents out.old) (W.contents out.new)) }
     // Where it says no, the first reason holds. An offer that is accepted is refused only where memory is, or where the answer cannot
     // be written.
-    ensures refused { IfErr result (IsTold text.now name.now offer.now) }
+    ensures refused { IfErr result (IsUnjudged text.now name.now offer.now) }
     ensures printed { IfErr result (Printed text.now name.now offer.now (W.contents out.old) (W.contents out.new)) }
     ensures only { (pass : PassNumber) → IsJudged text.now name.now offer.now pass → IfErr result IsWant }
 {

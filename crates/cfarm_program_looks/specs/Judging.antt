@@ -2,7 +2,7 @@
 use Rattle.std.specs.Prelude.{◌≡◌, ◌⊎◌, ℕ, List, Option, Result}
 use Rattle.cfarm_files.specs.declared.fault.FileFault.{FileFault}
 use Rattle.cfarm_judge.specs.Lines as judge
-use Rattle.cfarm_judge.specs.Told.{HasJudged, IsTold, Printed}
+use Rattle.cfarm_judge.specs.Told.{HasJudged, IsUnjudged, Printed}
 use Rattle.cfarm_judge.specs.declared.error.JudgeError.{JudgeError}
 use Rattle.cfarm_program_status.specs.Reading.{Coming, OnFile}
 use Rattle.cfarm_program_status.specs.Telling.{Answer, quiet, told}
@@ -15,7 +15,7 @@ judge_fault name path fault = told (judge.status_of fault) (judge.judge_line fau
 abbrev pub Accepted : (name path : List ℕ) → (text offer : List ℕ) → Coming
 Accepted name path text offer answer before after =
     (HasJudged text name offer before after × (answer ≡ quiet))
-    ⊎ ((fault : JudgeError) × IsTold text name offer fault × Printed text name offer before after fault × (answer ≡ judge_fault name path fault))
+    ⊎ ((fault : JudgeError) × IsUnjudged text name offer fault × Printed text name offer before after fault × (answer ≡ judge_fault name path fault))
 
 -- the file of the offer is read
 abbrev pub Judged : (List ℕ → Option (Result (List ℕ) FileFault)) → (name path text : List ℕ) → Coming

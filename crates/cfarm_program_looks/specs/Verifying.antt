@@ -2,7 +2,7 @@
 use Rattle.std.specs.Prelude.{◌≡◌, ◌⊎◌, ℕ, List, Option, Result}
 use Rattle.cfarm_files.specs.declared.fault.FileFault.{FileFault}
 use Rattle.cfarm_verify.specs.Lines as verify
-use Rattle.cfarm_verify.specs.Told.{HasVerified, IsTold, Printed}
+use Rattle.cfarm_verify.specs.Told.{HasVerified, IsUnverified, Printed}
 use Rattle.cfarm_verify.specs.declared.error.VerifyError.{VerifyError}
 use Rattle.cfarm_program_status.specs.Reading.{Coming, OnFile}
 use Rattle.cfarm_program_status.specs.Telling.{Answer, quiet, told}
@@ -15,7 +15,7 @@ verify_fault program bundle fault = told (verify.status_of fault) (verify.verify
 abbrev pub Proven : (program_path path : List ℕ) → (text program bundle : List ℕ) → Coming
 Proven program_path path text program bundle answer before after =
     (HasVerified text program bundle before after × (answer ≡ quiet))
-    ⊎ ((fault : VerifyError) × IsTold text program bundle fault × Printed text program bundle fault before after
+    ⊎ ((fault : VerifyError) × IsUnverified text program bundle fault × Printed text program bundle fault before after
     × (answer ≡ verify_fault program_path path fault))
 
 -- the file of the program is read, then that of the bundle

@@ -6,7 +6,7 @@ use Rattle.rooms_cells.specs.Seen.{SightOf, names_of, value_at}
 use Rattle.rooms_words.specs.declared.acceptor.AcceptorWord.{AcceptorWord}
 use Rattle.rooms_words.specs.declared.proposer.ProposerWord.{ProposerWord}
 use Rattle.rooms_words.specs.declared.view.View.{View}
-use Rattle.rooms_seat_state.specs.declared.act.Act.{Act}
+use Rattle.rooms_seat_state.specs.declared.act.SeatAct.{SeatAct}
 use Rattle.rooms_seat_state.specs.Did.{Did, LookedAtAcceptor, LookedAtProposer, NotesOf}
 use Rattle.rooms_seat_state.specs.SeatState.{SeatState}
 use Rattle.rooms_seat_state.specs.Would.{would, act_of, proposed_by_step, Acted}
@@ -44,11 +44,11 @@ pub looked_at_acceptor : (j : ℕ) (x : AcceptorWord) (old new : SeatState) → 
 looked_at_acceptor j x old new h n =
     record { table = n.table; opening = ap (λ (v : View). v.opening) h.advances.stays; me = n.me; quorums = n.quorums }
 
-opening_after : (a : Act) (old new : SeatState) (o : Option Step) → IfSome o (λ s. Did (act_of s) (proposed_by_step s old.proposed) old new) → (o ≡ None → new ≡ old) → new.view.opening ≡ old.view.opening
+opening_after : (a : SeatAct) (old new : SeatState) (o : Option Step) → IfSome o (λ s. Did (act_of s) (proposed_by_step s old.proposed) old new) → (o ≡ None → new ≡ old) → new.view.opening ≡ old.view.opening
 opening_after a old new (Some s) did idle = ap (λ (v : View). v.opening) did.took.advances.stays
 opening_after a old new None did idle = ap (λ (s : SeatState). s.view.opening) (idle refl)
 
-pub acted : (a : Act) (old new : SeatState) → Acted a old new → IsSameSeat old new
+pub acted : (a : SeatAct) (old new : SeatState) → Acted a old new → IsSameSeat old new
 acted a old new h =
     record { table = h.table; opening = opening_after a old new (would old a) h.stepped h.idle; me = h.me; quorums = h.quorums }
 
@@ -67,7 +67,7 @@ module _ {T : Type 0} where
   pub stays_through : (a b c : SeatValue T) → SeesNoMore a b → SeesNoMore b c → SeesNoMore a c
   stays_through a b c h k = record { room = through_room a.words b.words c.words h.room k.room; sights = k.sights ∙ h.sights }
 
-  pub stays_acted : (act : Act) (a b : SeatValue T) → Acted act a.words b.words → b.sights ≡ a.sights → SeesNoMore a b
+  pub stays_acted : (act : SeatAct) (a b : SeatValue T) → Acted act a.words b.words → b.sights ≡ a.sights → SeesNoMore a b
   stays_acted act a b h k = record { room = acted act a.words b.words h; sights = k }
 
   pub stays_looked_at_proposer : (j : ℕ) (x : ProposerWord) (a b : SeatValue T) → LookedAtProposer j x a.words b.words → b.sights ≡ a.sights → SeesNoMore a b

@@ -7,7 +7,7 @@ use Rattle.hex.specs.Hex.{encode_lower}
 use Rattle.sha2.specs.Sha256.{sha256}
 use Rattle.cfarm_verify.specs.Answered.{IsAnswer, IsLineFor}
 use Rattle.cfarm_verify.specs.Lines.{line_with, verified_line}
-use Rattle.cfarm_verify.specs.Told.{IsTold, IsVerified, Printed}
+use Rattle.cfarm_verify.specs.Told.{IsUnverified, IsVerified, Printed}
 use Rattle.cfarm_verify.specs.declared.error.VerifyError.{VerifyError}
 use Rattle.cfarm_verify.specs.declared.error.VerifyError.TheVariants.{NoMemory, Source, Program, Bundle, OtherSource, ProgramNames, BundleNames, Offer, OtherFunction, OtherGlobals, Write}
 
@@ -37,7 +37,7 @@ stays None = tt
 stays (Some xs) = sym (append-nil xs)
 
 module _ (text program bundle : List ℕ) (held : Option (List ℕ)) where
-  pub unprinted : (fault : VerifyError) → IsTold text program bundle fault → Printed text program bundle fault held held
+  pub unprinted : (fault : VerifyError) → IsUnverified text program bundle fault → Printed text program bundle fault held held
   unprinted NoMemory told = refl
   unprinted (Source fault) told = refl
   unprinted (Program fault) told = refl

@@ -18,7 +18,7 @@ use Rattle.bundle_reading.specs.Texts.{IsBundleOf}
 use Rattle.bundle_offers.proofs.Standings.{accepted, all_accepted, go_on}
 use Rattle.cfarm_verify.specs.Checked.{AreChecked, IsUnchecked}
 use Rattle.cfarm_verify_reading.specs.Spelled.{IsSpelled}
-use Rattle.cfarm_verify.specs.Told.{HasSmallFunctions, IsTold, IsVerified, rtl_of}
+use Rattle.cfarm_verify.specs.Told.{HasSmallFunctions, IsUnverified, IsVerified, rtl_of}
 use Rattle.cfarm_verify.specs.declared.error.VerifyError.{VerifyError}
 use Rattle.cfarm_verify.specs.declared.error.VerifyError.TheVariants as verify
 
@@ -48,7 +48,7 @@ module _ (text program bundle : List ℕ) (u : UnitTree) (is : IsAccepted text u
   abbrev Said : VerifyError → Type 0
   Said e = IsUnchecked (sha256 text) (rtl_of u) p digest offers e
 
-  told_of : (e : VerifyError) → Said e → IsTold text program bundle e
+  told_of : (e : VerifyError) → Said e → IsUnverified text program bundle e
   told_of verify.NoMemory told = tt
   told_of (verify.Source fault) told = absurd told
   told_of (verify.Program fault) told = absurd told
@@ -61,7 +61,7 @@ module _ (text program bundle : List ℕ) (u : UnitTree) (is : IsAccepted text u
   told_of verify.OtherGlobals told = (record { tree = u; accepted = is; small = small; linear = p; spelled = spelled; digest = digest; offers = offers; bundled = bundled }, told)
   told_of verify.Write told = absurd told
 
-  pub unverified_by : (e : VerifyError) → IsUnchecked hash begun p held offers e → IsTold text program bundle e
+  pub unverified_by : (e : VerifyError) → IsUnchecked hash begun p held offers e → IsUnverified text program bundle e
   unverified_by e told =
       let of_text = subst (λ h. IsUnchecked h begun p digest offers e) hashed (subst (λ d. IsUnchecked hash begun p d offers e) same told) in
       told_of e (subst (λ b. IsUnchecked (sha256 text) b p digest offers e) begins of_text)

@@ -70,13 +70,13 @@ module _ (text program bundle : List ℕ) where
     pub bundled : IsBundleOf bundle digest offers
 
   -- The first of these that holds. That memory was refused says nothing.
-  abbrev pub IsTold : VerifyError → Type 0
-  IsTold NoMemory = Unit {0}
-  IsTold (Source fault) = IsUnprepared text fault
-  IsTold (Program fault) = IsText × (fault ≢ form.NoMemory → IsNoProgram program)
-  IsTold (Bundle fault) = IsText × ((p : programs.Program linear.FunctionData) × IsSpelled program p) × (fault ≢ form.NoMemory → HasNoBundle bundle)
-  IsTold Write = (n : ℕ) × IsVerified n
-  IsTold other = (are : AreForms) × IsUnchecked (sha256 text) (rtl_of are.tree) are.linear are.digest are.offers other
+  abbrev pub IsUnverified : VerifyError → Type 0
+  IsUnverified NoMemory = Unit {0}
+  IsUnverified (Source fault) = IsUnprepared text fault
+  IsUnverified (Program fault) = IsText × (fault ≢ form.NoMemory → IsNoProgram program)
+  IsUnverified (Bundle fault) = IsText × ((p : programs.Program linear.FunctionData) × IsSpelled program p) × (fault ≢ form.NoMemory → HasNoBundle bundle)
+  IsUnverified Write = (n : ℕ) × IsVerified n
+  IsUnverified other = (are : AreForms) × IsUnchecked (sha256 text) (rtl_of are.tree) are.linear are.digest are.offers other
 
   -- it is verified, and how many functions there are was printed, with the digest of the program's bytes
   abbrev pub HasVerified : Option (List ℕ) → Option (List ℕ) → Type 0

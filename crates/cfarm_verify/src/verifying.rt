@@ -11,7 +11,7 @@ ghost use Rattle.cfarm_verify_reading.specs.Found.{AreSpelled, IsPrepared, IsSou
 ghost use Rattle.cfarm_verify.specs.Answered.{IsAnswer, IsLineFor};
 ghost use Rattle.cfarm_verify.specs.Lines.{line_with};
 ghost use Rattle.cfarm_verify_reading.specs.Spelled.{IsSpelled};
-ghost use Rattle.cfarm_verify.specs.Told.{HasVerified, IsTold, IsVerified, IsWant, Printed};
+ghost use Rattle.cfarm_verify.specs.Told.{HasVerified, IsUnverified, IsVerified, IsWant, Printed};
 
 use crate::checking::checked;
 use crate::error::VerifyError;
@@ -46,7 +46,7 @@ fn settled<R: Threads + Sync>(
     requires bundled { IsBundleOf bundle.now digest.now (offers_in fours.now) }
     requires alone { AreAlone fours.now alone.now }
     ensures verified { IfOk result (IsVerified text.now program.now bundle.now) }
-    ensures refused { IfErr result (IsTold text.now program.now bundle.now) }
+    ensures refused { IfErr result (IsUnverified text.now program.now bundle.now) }
     ensures only { (n : ℕ) → IsVerified text.now program.now bundle.now n → IfErr result IsWant }
 {
     keeps_composes();
@@ -105,7 +105,7 @@ fn verified<R: Threads + Sync>(
     requires prepared { IsPrepared text.now source }
     requires forms { AreSpelled program.now bundle.now forms }
     ensures verified { IfOk result (IsVerified text.now program.now bundle.now) }
-    ensures refused { IfErr result (IsTold text.now program.now bundle.now) }
+    ensures refused { IfErr result (IsUnverified text.now program.now bundle.now) }
     ensures only { (n : ℕ) → IsVerified text.now program.now bundle.now n → IfErr result IsWant }
 {
     let Forms {
@@ -188,10 +188,10 @@ fn answer_of(
 ) -> Result<String, VerifyError>
     requires digits { IfOk digits (λ digits. string_bytes digits ≡ encode_lower (sha256 program.now)) }
     requires verified { IfOk found (IsVerified text.now program.now bundle.now) }
-    requires refused { IfErr found (IsTold text.now program.now bundle.now) }
+    requires refused { IfErr found (IsUnverified text.now program.now bundle.now) }
     requires only { (n : ℕ) → IsVerified text.now program.now bundle.now n → IfErr found IsWant }
     ensures answer { IfOk result (λ line. IsAnswer text.now program.now bundle.now (string_bytes line)) }
-    ensures refused { IfErr result (IsTold text.now program.now bundle.now) }
+    ensures refused { IfErr result (IsUnverified text.now program.now bundle.now) }
     ensures only { (n : ℕ) → IsVerified text.now program.now bundle.now n → IfErr result IsWant }
 {
     line_for(alloc, digits, found)
@@ -216,7 +216,7 @@ pub fn verify<R: Threads + Sync, W: Write>(
     // It says yes exactly where the bundle's offers, each accepted by its pass, chain from the text's RTL to this very program.
     ensures verified { OnOk result (HasVerified text.now program.now bundle.now (W.contents out.old) (W.contents out.new)) }
     // Where it says no, the first reason holds.
-    ensures refused { IfErr result (IsTold text.now program.now bundle.now) }
+    ensures refused { IfErr result (IsUnverified text.now program.now bundle.now) }
     ensures printed { IfErr result (λ fault. Printed text.now program.now bundle.now fault (W.contents out.old) (W.contents out.new)) }
     // A program that is verified by the bundle is refused only where memory is, or where the answer cannot be written.
     ensures only { (n : ℕ) → IsVerified text.now program.now bundle.now n → IfErr result IsWant }

@@ -9,7 +9,7 @@ use Rattle.acceptor_log_form.specs.declared.record.Record.{Record}
 use Rattle.acceptor_log_form.specs.declared.record.Record.TheVariants.{Offered}
 use Rattle.acceptor_log_form.specs.Leaves.{kept_in}
 use Rattle.acceptor_log_form.specs.Lists.{Begins}
-use Rattle.rooms_seat_state.specs.declared.act.Act.{Act as Asked}
+use Rattle.rooms_seat_state.specs.declared.act.SeatAct.{SeatAct as Asked}
 use Rattle.rooms_seat_state.specs.SeatState.{SeatState}
 use Rattle.rooms_seat_state.specs.Would.{would, IsAmong}
 use Rattle.rooms_crash.specs.Held.{MayHold}

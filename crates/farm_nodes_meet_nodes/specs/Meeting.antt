@@ -26,7 +26,7 @@ module _ {D O H : Type 0} {h : naming.Ghosts H} where
 
   -- of each function the rooms have two numbers
   abbrev pub AreStrangers : FarmNode D O H h → FarmNode D O H h → Type 0
-  AreStrangers first second = lists.AreStrangers held_of first.seats.items second.seats.items
+  AreStrangers first second = lists.AreAllStrange held_of first.seats.items second.seats.items
 
   -- nothing of a node changes but its seats
   abbrev pub StaysButSeats : FarmNode D O H h → FarmNode D O H h → Type 0

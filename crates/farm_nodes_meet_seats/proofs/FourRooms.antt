@@ -5,7 +5,7 @@ use Rattle.std.specs.Prelude.{IsSome, IsTrue}
 use Rattle.rooms_hall.specs.Claimed.{Claimed}
 use Rattle.farm_nodes_turn_passes.specs.FunctionMeeting.{FunctionMeeting}
 use Rattle.farm_nodes_turn_passes.specs.FunctionSeat.{FunctionSeat}
-use Rattle.farm_nodes_turn_passes.specs.FunctionOf.{AreAsBefore, AreStrangers, HaveMetIn}
+use Rattle.farm_nodes_turn_passes.specs.FunctionOf.{AreAsBefore, ShareNoRoom, HaveMetIn}
 use Rattle.farm_nodes_turn_passes.specs.Met.{IsOneFunction}
 use Rattle.farm_nodes_turn_passes.specs.Offers.{ConstantsOffer, ExpressionsOffer, AllocationOffer, OrderOffer}
 use Rattle.farm_nodes_meet_seats.specs.Held.{Held, held}
@@ -90,7 +90,7 @@ one_number n m never = elim (cases_eq n m) [ inl e ↦ e | inr apart ↦ absurd 
 
 module _ (c d c' d' : Claimed) (a b a' b' : FunctionSeat) (ec : c' ≡ c) (ed : d' ≡ d) where
   -- they have met in each room, or are as they were
-  pub met_in : (m : Option FunctionMeeting) → (m ≡ None → AreStrangers a b) → ((m ≡ None) ↔ (c.number ≢ d.number)) → AreAsBefore m a b a' b'
+  pub met_in : (m : Option FunctionMeeting) → (m ≡ None → ShareNoRoom a b) → ((m ≡ None) ↔ (c.number ≢ d.number)) → AreAsBefore m a b a' b'
       → IfSome m (λ x. IsOneFunction a b) → IfSome m (λ x. HaveMetIn x a b a' b') → MetIn (held_with c a) (held_with d b) (held_with c' a') (held_with d' b')
   met_in None away two same is met =
       let ea : a' ≡ a = (same refl).0 in
@@ -111,7 +111,7 @@ module _ (c d c' d' : Claimed) (a b a' b' : FunctionSeat) (ec : c' ≡ c) (ed : 
       }
 
   -- it is told whether they are of the same rooms
-  pub one_told : (m : Option FunctionMeeting) → (m ≡ None → AreStrangers a b) → IfSome m (λ x. IsOneFunction a b)
+  pub one_told : (m : Option FunctionMeeting) → (m ≡ None → ShareNoRoom a b) → IfSome m (λ x. IsOneFunction a b)
       → IsTrue (is_some m) ↔ AreOne (held_with c a) (held_with d b)
   one_told None away is = (λ e. absurd (cc e), λ one. absurd ((away refl).first one.constants))
   one_told (Some x) away is = (

@@ -7,7 +7,7 @@ use Rattle.std.proofs.lemmas.Option.{slice_get-get_or, slice_get_within}
 use Rattle.farm_nodes_meet_seats.specs.Counts.{IsCount}
 use Rattle.farm_nodes_meet_seats.specs.Functions.{BothLink, MetIn, HasMet}
 use Rattle.farm_nodes_meet_seats.specs.Held.{Held}
-use Rattle.farm_nodes_meet_seats.specs.Lists.{IsAt, IsOneAt, LinkAt, AreAll, AreStrangers, HaveMetAll}
+use Rattle.farm_nodes_meet_seats.specs.Lists.{IsAt, IsOneAt, LinkAt, AreAll, AreAllStrange, HaveMetAll}
 use Rattle.farm_nodes_meet_seats.proofs.Counts.{count_next, most_next, each_counted, none_counted}
 use Rattle.farm_nodes_meet_seats.proofs.FourRooms.{same_held, same_rooms}
 
@@ -137,7 +137,7 @@ module _ {S T1 T2 T3 T4 : Type 0} (view : S → Held T1 T2 T3 T4) where
   }
 
   -- where the numbers are two the rooms are not the same
-  pub none_one : (xs ys xs' ys' : List S) → length xs ≡ length ys → AreAll Met xs ys xs' ys' → AreStrangers view xs ys → (k : ℕ) → k < length xs → IsOneAt view xs ys k → ⊥
+  pub none_one : (xs ys xs' ys' : List S) → length xs ≡ length ys → AreAll Met xs ys xs' ys' → AreAllStrange view xs ys → (k : ℕ) → k < length xs → IsOneAt view xs ys k → ⊥
   none_one xs ys xs' ys' long all apart k below one =
       let a = found xs k below in
       let b = found ys k (omega (arith, below, long)) in

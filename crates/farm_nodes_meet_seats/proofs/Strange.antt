@@ -5,7 +5,7 @@ use Rattle.std.proofs.lemmas.Bool.{cases_eq}
 use Rattle.std.proofs.lemmas.Option.{slice_get-get_or, slice_get_within}
 use Rattle.farm_nodes_meet_seats.specs.Functions.{HaveTwoNumbers}
 use Rattle.farm_nodes_meet_seats.specs.Held.{Held}
-use Rattle.farm_nodes_meet_seats.specs.Lists.{AreStrangers, IsStrangeAt}
+use Rattle.farm_nodes_meet_seats.specs.Lists.{AreAllStrange, IsStrangeAt}
 
 one_item : {S : Type 0} (o : Option S) (x y : S) → o ≡ Some x → o ≡ Some y → x ≡ y
 one_item o x y e e' = cc
@@ -37,10 +37,10 @@ module _ {S T1 T2 T3 T4 : Type 0} (view : S → Held T1 T2 T3 T4) (xs ys : List 
   }
 
   -- of each of one of the two, so of all that both have
-  pub all_strange : (n : ℕ) → (length xs ≤ n) ⊎ (length ys ≤ n) → AreStrange n → AreStrangers view xs ys
+  pub all_strange : (n : ℕ) → (length xs ≤ n) ⊎ (length ys ≤ n) → AreStrange n → AreAllStrange view xs ys
   all_strange n (inl past) before k within x y ex ey = before.each k (omega (arith, within, past)) x y ex ey
   all_strange n (inr past) before k within x y ex ey = before.each k (omega (arith, slice_get_within ys k y ey, past)) x y ex ey
 
   pub one_number : (n : ℕ) (a b : S) → slice_get xs n ≡ Some a → slice_get ys n ≡ Some b → (HaveTwoNumbers (view a) (view b) → ⊥)
-      → AreStrangers view xs ys → ⊥
+      → AreAllStrange view xs ys → ⊥
   one_number n a b ea eb one two = one (two n (slice_get_within xs n a ea) a b ea eb)

@@ -25,8 +25,8 @@ module _ {S T1 T2 T3 T4 : Type 0} (view : S → Held T1 T2 T3 T4) where
   IsStrangeAt xs ys k = IsAt (λ a b. HaveTwoNumbers (view a) (view b)) xs ys k
 
   -- nodes of two farms: so it is of each function
-  abbrev pub AreStrangers : List S → List S → Type 0
-  AreStrangers xs ys = (k : ℕ) → k < length xs → IsStrangeAt xs ys k
+  abbrev pub AreAllStrange : List S → List S → Type 0
+  AreAllStrange xs ys = (k : ℕ) → k < length xs → IsStrangeAt xs ys k
 
   -- its four rooms are the same
   abbrev pub IsOneAt : List S → List S → ℕ → Type 0
@@ -42,4 +42,4 @@ pub record HaveMetAll {S T1 T2 T3 T4 : Type 0} (xs ys xs' ys' : List S) (count :
   pub all : length xs ≡ length ys → count ≡ length xs → (k : ℕ) → k < length xs → LinkAt view xs' ys' k
   pub same : length xs ≡ length ys → (k : ℕ) → LinkAt view xs' ys' k → IsAt (λ a b. HoldSameOffers (view a) (view b)) xs' ys' k
   pub none : ((k : ℕ) → k < length xs → IsOneAt view xs ys k → ⊥) → count ≡ 0
-  pub strangers : AreStrangers view xs ys → count ≡ 0
+  pub strangers : AreAllStrange view xs ys → count ≡ 0

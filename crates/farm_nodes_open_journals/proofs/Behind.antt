@@ -17,7 +17,7 @@ use Rattle.acceptor_log.specs.Acknowledged.{acknowledged, IsSound}
 use Rattle.acceptor_log.specs.declared.log.Log.{Log}
 use Rattle.acceptor_log_old.specs.Migrated.{migrated}
 use Rattle.acceptor_log_migrating.specs.Stands.{CanMigrate, IsMigrating, IsNotMigrated}
-use Rattle.acceptor_log_migrating.specs.Moving.{Stays}
+use Rattle.acceptor_log_migrating.specs.Moving.{RefusalKeepsOld}
 use Rattle.farm_nodes_open_old.specs.OnPairs.{HasOld, HasNone, HasNew, MayShow, IsSame, IsUntouched}
 use Rattle.farm_nodes_open_journals.specs.Journals.{MayStay, MayTurn, IsOpened, IsRefused, IsMigrated, IsListed, WasMigrated}
 use Rattle.farm_nodes_open_old.proofs.Shows.{shows_first, shows_then}
@@ -206,7 +206,7 @@ module _ {P : Type 0} (disk : disks.Ghosts P) (pair : pairs.Ghosts P) where
         → (pair.is_whole m → fault ≢ Device → ((disk.seen back ≡ disk.seen m) × (pair.old_seen back ≡ pair.old_seen m)) ⊎ WasMigrated disk pair h m back)
         → (pair.is_whole m → Only (pair.old_seen m) (pair.old_may m) → (old : List Record) → CanMigrate h old (pair.old_seen m)
         → LeavesOnly disk.moment pair.both_since m back (IsMigrating h old (pair.old_seen m)))
-        → (pair.is_whole m → Stays disk pair m back fault)
+        → (pair.is_whole m → RefusalKeepsOld disk pair m back fault)
         → (fault ≡ Device → Risen (disk.faults m) (disk.faults back)) → (fault ≢ Device → disk.faults back ≡ disk.faults m) → IsRefused disk pair h p back fault
     refused_old back fault as_whole cause unwritten second stay failed unfailed = record {
       whole = λ is. as_whole.1 (whole.1 is);

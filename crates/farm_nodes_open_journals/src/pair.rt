@@ -3,7 +3,7 @@
 ghost use Rattle.std.specs.Prelude.{◌≡◌, ◌≢◌, ◌<◌, ◌≤◌, ◌↔◌, true, IfOk, IfErr};
 ghost use Rattle.durable_model.specs.Honest.{Risen};
 ghost use Rattle.acceptor_log.specs.Acknowledged.{acknowledged, IsSound};
-ghost use Rattle.acceptor_log_migrating.specs.Moving.{IsRefusedFor, IsTurned, Moves, Stays};
+ghost use Rattle.acceptor_log_migrating.specs.Moving.{IsRefusedFor, IsTurned, Moves, RefusalKeepsOld};
 ghost use Rattle.farm_nodes_open_journals.specs.Journals.{Opens};
 ghost use Rattle.farm_nodes_open_journals.specs.Steps.{opened_disk, AreMigrated, IsSameOrMigrated};
 
@@ -60,7 +60,7 @@ fn open_old<P: Pair>(
     ensures moved { P.is_whole pair → IfOk result (λ opened. AreMigrated P.Pair.own header.now pair opened.1.items) }
     ensures turned { P.is_whole pair → IfOk result (λ opened. IsTurned P.Pair.own pair opened.0.disk) }
     ensures any_moment { P.is_whole pair → Moves P.Disk P.Pair.own header.now pair (opened_disk result) }
-    ensures stays { P.is_whole pair → IfErr result (λ refused. Stays P.Disk P.Pair.own pair refused.0 refused.1) }
+    ensures stays { P.is_whole pair → IfErr result (λ refused. RefusalKeepsOld P.Disk P.Pair.own pair refused.0 refused.1) }
     ensures refused { P.is_whole pair → IfErr result (λ refused. IsRefusedFor header.now (P.old_seen pair) refused.1) }
     ensures unwritten { P.is_whole pair
         → IfErr result (λ r. IsSameOrMigrated P.Disk P.Pair.own header.now pair r.0 r.1) }

@@ -12,23 +12,23 @@ use Rattle.farm_nodes_turn_passes.specs.Texts.{Texts}
 use Rattle.farm_nodes_restart_records.specs.declared.finding.Found.{Found}
 use Rattle.farm_nodes_restart_records.specs.declared.finding.Found.TheVariants as found
 use Rattle.farm_nodes_restart_records.specs.Found.{IsButLast}
-use Rattle.farm_nodes_restart_records.specs.Told.{settled_by, AreTold, AreToldTo, IsConfirmed, IsTold}
+use Rattle.farm_nodes_restart_records.specs.Told.{settled_by, AreTold, AreToldTo, IsConfirmed, TellsItsOffer}
 use Rattle.farm_nodes_restart_seat.proofs.Places.{some_same}
 
 module _ {X1 X2 X3 X4 : Type 0} (texts : Texts X1 X2 X3 X4) (seats : List (Four X1 X2 X3 X4)) (rs : List Record) where
   pub told_to_none : (told : Type 0) → told → told ↔ AreToldTo texts seats rs 0
   told_to_none told holds = (λ t k r below. absurd (omega (arith, below)), λ all. holds)
 
-  told_more : (n : ℕ) (r : Record) → slice_get rs n ≡ Some r → AreToldTo texts seats rs n → IsTold texts seats r → AreToldTo texts seats rs (n + 1)
+  told_more : (n : ℕ) (r : Record) → slice_get rs n ≡ Some r → AreToldTo texts seats rs n → TellsItsOffer texts seats r → AreToldTo texts seats rs (n + 1)
   told_more n r there all own k q below at =
       elim (cases_eq k n) [
         | inl same ↦
             let one : r ≡ q = some_same (slice_get rs n) r q there (ap (λ (j : ℕ). slice_get rs j) (sym same) ∙ at) in
-            subst (λ (x : Record). IsTold texts seats x) one own
+            subst (λ (x : Record). TellsItsOffer texts seats x) one own
         | inr other ↦ all k q (let ne : k ≢ n = other in omega (arith, below, ne)) at
       ]
 
-  pub told_to_more : (n : ℕ) (r : Record) (sofar here told : Type 0) → slice_get rs n ≡ Some r → sofar ↔ AreToldTo texts seats rs n → here ↔ IsTold texts seats r → told ↔ (sofar × here)
+  pub told_to_more : (n : ℕ) (r : Record) (sofar here told : Type 0) → slice_get rs n ≡ Some r → sofar ↔ AreToldTo texts seats rs n → here ↔ TellsItsOffer texts seats r → told ↔ (sofar × here)
       → told ↔ AreToldTo texts seats rs (n + 1)
   told_to_more n r sofar here told there before own both = (
     λ yes. let parts = both.0 yes in told_more n r there (before.0 parts.0) (own.0 parts.1),

@@ -25,16 +25,16 @@ module _ {X1 X2 X3 X4 : Type 0} (texts : Texts X1 X2 X3 X4) (seats : List (Four 
       (s : Four X1 X2 X3 X4) × (slice_get seats (function_of room) ≡ Some s) × IsOwnTextIn texts (pass_of room) s text
 
   -- it is so of the record, if that is of an offer
-  abbrev pub IsTold : Record → Type 0
-  IsTold r = (room : ℕ) (text : List ℕ) → r ≡ Offered room text → IsTextAt room text
+  abbrev pub TellsItsOffer : Record → Type 0
+  TellsItsOffer r = (room : ℕ) (text : List ℕ) → r ≡ Offered room text → IsTextAt room text
 
   -- of the records below a place
   abbrev pub AreToldTo : List Record → ℕ → Type 0
-  AreToldTo rs n = (k : ℕ) (r : Record) → k < n → slice_get rs k ≡ Some r → IsTold r
+  AreToldTo rs n = (k : ℕ) (r : Record) → k < n → slice_get rs k ≡ Some r → TellsItsOffer r
 
   -- of all
   abbrev pub AreTold : List Record → Type 0
-  AreTold rs = (k : ℕ) (r : Record) → slice_get rs k ≡ Some r → IsTold r
+  AreTold rs = (k : ℕ) (r : Record) → slice_get rs k ≡ Some r → TellsItsOffer r
 
   -- What they are, where they are this by what the seats keep: the same where the records tell their offers, else neither. Behind a
   -- pending record those in front of it have to.

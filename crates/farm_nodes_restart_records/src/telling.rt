@@ -3,7 +3,7 @@
 ghost use Rattle.std.specs.Prelude.{◌≡◌, ◌↔◌, IsTrue, IfOk};
 ghost use Rattle.farm_nodes_turn_passes.specs.Fours.{fours_of};
 ghost use Rattle.farm_nodes_turn_passes.specs.Texts.{pass_texts};
-ghost use Rattle.farm_nodes_restart_records.specs.Told.{AreTold, IsTextAt, IsTold};
+ghost use Rattle.farm_nodes_restart_records.specs.Told.{AreTold, IsTextAt, TellsItsOffer};
 
 use crate::fours::{both, is_text_in};
 use acceptor_log_form::Record;
@@ -37,7 +37,7 @@ fn is_told<H: Naming>(
     seats: &Vec<NumberedSeat<H>>,
     entry: &Record,
 ) -> Result<bool, NoMemory>
-    ensures { IfOk result (λ told. IsTrue told ↔ IsTold pass_texts (fours_of seats.now.items) entry.now) }
+    ensures { IfOk result (λ told. IsTrue told ↔ TellsItsOffer pass_texts (fours_of seats.now.items) entry.now) }
 {
     match entry {
         Record::Offered(room, text) => is_text_at(alloc, seats, *room, text.as_slice()),

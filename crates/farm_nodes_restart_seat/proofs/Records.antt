@@ -5,7 +5,7 @@ use Rattle.paxos_core_node_steps.specs.declared.step.Step.TheVariants as step
 use Rattle.acceptor_log_form.specs.declared.record.Record.{Record}
 use Rattle.acceptor_log_form.specs.Text.{room_of}
 use Rattle.acceptor_log_form.specs.Leaves.{kept_by_record}
-use Rattle.rooms_seat_state.specs.declared.act.Act.{Act as Asked}
+use Rattle.rooms_seat_state.specs.declared.act.SeatAct.{SeatAct as Asked}
 use Rattle.rooms_seat_state.specs.SeatState.{SeatState}
 use Rattle.rooms_seat_state.specs.Would.{would, Acted}
 use Rattle.paxos_core_world.specs.KeptPart.{KeptPart}

@@ -16,7 +16,7 @@ use farm_nodes_turn_offer::{Pending, Seat, record_of};
 use lang_base::{NoMemory, Pass};
 use offers::{Offer, OfferError};
 use rooms_cells::Put;
-use rooms_seat_state::act::Act;
+use rooms_seat_state::act::SeatAct;
 use std::alloc::Global;
 use std::sync::Arc;
 
@@ -32,7 +32,7 @@ pub fn is_pending<P: Pass>(seat: &Seat<P>, room: u16, pending: &Pending, entry: 
 }
 
 /// Whether the record is that of the step that the seat would take.
-fn is_told<P: Pass>(seat: &Seat<P>, room: u16, act: Act, entry: &Record) -> bool
+fn is_told<P: Pass>(seat: &Seat<P>, room: u16, act: SeatAct, entry: &Record) -> bool
     requires { IsAmong seat.now.words.node.quorums.nodes act }
     ensures { IsTrue result ↔ (records_of room (would seat.now.words act) ≡ entry.now ∷ []) }
 {
@@ -67,23 +67,23 @@ pub fn take<P: Pass>(
 }
 
 /// Does what it is asked.
-fn do_act<P: Pass>(seat: &mut Seat<P>, act: Act)
+fn do_act<P: Pass>(seat: &mut Seat<P>, act: SeatAct)
     requires { IsAmong seat.old.words.node.quorums.nodes act }
     ensures acted { Acted act seat.old.words seat.new.words }
     ensures sights { seat.new.sights ≡ seat.old.sights }
     ensures room { IsOneRoom seat.old seat.new }
 {
     match act {
-        Act::Start => {
+        SeatAct::Start => {
             let _ballot = seat.start();
         }
-        Act::Promise(j) => {
+        SeatAct::Promise(j) => {
             let _ballot = seat.promise(j);
         }
-        Act::Propose => {
+        SeatAct::Propose => {
             let _proposal = seat.propose();
         }
-        Act::Accept(j) => {
+        SeatAct::Accept(j) => {
             let _vote = seat.accept(j);
         }
     }

@@ -2,18 +2,18 @@
 use Rattle.std.proofs.Common.{◌≡◌, ℕ, ◌+◌, ◌<◌, ◌≤◌, inl, inr, Bool, true, false, cond, leb, Option, Some, None, IfSome, refl, sym, subst, arith}
 use Rattle.std.proofs.lemmas.Bool.{cases_lt, leb-true, leb-false}
 use Rattle.paxos_core_node_steps.specs.declared.step.Step.{Step}
-use Rattle.rooms_crash.specs.Act.{Act}
+use Rattle.rooms_crash.specs.SeatAct.{SeatAct}
 use Rattle.rooms_crash.specs.SeatState.{SeatState}
 use Rattle.rooms_crash.specs.Would.{would}
-use Rattle.rooms_crash.specs.Act.TheVariants as act
+use Rattle.rooms_crash.specs.SeatAct.TheVariants as act
 use Rattle.farm_nodes_sweep_step.specs.Next.{ballot_of, higher, AreNone, AreBelow, HasAnswered, IsHighest}
 
 -- what is found once the first n nodes were asked
-abbrev pub IsBest : (ℕ → Act) → ℕ → SeatState → Option (ℕ × ℕ) → Type 0
+abbrev pub IsBest : (ℕ → SeatAct) → ℕ → SeatState → Option (ℕ × ℕ) → Type 0
 IsBest asked n s None = AreNone asked n s
 IsBest asked n s (Some p) = (x : Step) × (p.0 < n) × (would s (asked p.0) ≡ Some x) × (ballot_of x ≡ p.1) × AreBelow asked n s p.1
 
-module _ (asked : ℕ → Act) (n : ℕ) (s : SeatState) where
+module _ (asked : ℕ → SeatAct) (n : ℕ) (s : SeatState) where
   -- the first n + 1 are the first n and this one
   below_more : (b : ℕ) → AreBelow asked n s b → IfSome (would s (asked n)) (λ x. ballot_of x ≤ b) → AreBelow asked (n + 1) s b
   below_more b before here i lt =
@@ -63,7 +63,7 @@ module _ (asked : ℕ → Act) (n : ℕ) (s : SeatState) where
   pub best_more : (best : Option (ℕ × ℕ)) → IsBest asked n s best → IsBest asked (n + 1) s (higher best n (would s (asked n)))
   best_more best before = best_by best (would s (asked n)) refl before
 
-pub best_is : (asked : ℕ → Act) (n : ℕ) (s : SeatState) (j b : ℕ) → IsBest asked n s (Some (j, b)) → IsHighest asked n s j
+pub best_is : (asked : ℕ → SeatAct) (n : ℕ) (s : SeatState) (j b : ℕ) → IsBest asked n s (Some (j, b)) → IsHighest asked n s j
 best_is asked n s j b (x, lt, at, ballot, below) =
     record { below = lt; taken = x; is = at; highest = subst (λ (c : ℕ). AreBelow asked n s c) (sym ballot) below }
 

@@ -7,7 +7,7 @@ use Rattle.acceptor_log_form.specs.declared.record.Record.{Record}
 use Rattle.acceptor_log_form.specs.Text.{room_of}
 use Rattle.acceptor_log_form.specs.Leaves.{proposed_in}
 use Rattle.acceptor_log_form.specs.Order.{MayComeNext}
-use Rattle.rooms_crash.specs.Act.{Act}
+use Rattle.rooms_crash.specs.SeatAct.{SeatAct}
 use Rattle.rooms_crash.specs.AcceptorWord.{AcceptorWord}
 use Rattle.rooms_crash.specs.ProposerWord.{ProposerWord}
 use Rattle.rooms_crash.specs.Did.{LookedAtAcceptor, LookedAtProposer}
@@ -40,24 +40,24 @@ looked_more j x y s m u t before first second =
     }
 
 -- the record of what the seat would do
-pub may_step : (room : ℕ) (s : SeatState) (a : Act) (x : Step) (r : Record) → IsBounded s → IsAmong s.node.quorums.nodes a → Some x ≡ would s a → r ≡ record_of room x → MayStep room s r
+pub may_step : (room : ℕ) (s : SeatState) (a : SeatAct) (x : Step) (r : Record) → IsBounded s → IsAmong s.node.quorums.nodes a → Some x ≡ would s a → r ≡ record_of room x → MayStep room s r
 may_step room s a x r bounds among told is = record {
   own = ap room_of is ∙ room_of_step room x;
   goes = λ last fresh. subst (λ (q : Record). MayComeNext s.node.quorums.nodes s.node.me s.node.kept last q) (sym is) (step_goes room s bounds last fresh a x among told);
 }
 
 -- and what taking it leaves
-steps : (room : ℕ) (s t : SeatState) (a : Act) (x : Step) → IsBounded s → IsAmong s.node.quorums.nodes a → Some x ≡ would s a → Acted a s t → Steps room s t (record_of room x)
+steps : (room : ℕ) (s t : SeatState) (a : SeatAct) (x : Step) → IsBounded s → IsAmong s.node.quorums.nodes a → Some x ≡ would s a → Acted a s t → Steps room s t (record_of room x)
 steps room s t a x bounds among told acted =
     let r = record_of room x in
     let follows = step_follows room s t a x r bounds among told refl acted (step_kept room s t a x r told refl acted) in
     record { own = follows.own; kept = follows.step; me = follows.me; quorums = follows.quorums; leaves = follows.leaves }
 
-steps_by : (room : ℕ) (s t : SeatState) (a : Act) → IsBounded s → IsAmong s.node.quorums.nodes a → Acted a s t → (o : Option Step) → o ≡ would s a → IfSome o (λ x. Steps room s t (record_of room x))
+steps_by : (room : ℕ) (s t : SeatState) (a : SeatAct) → IsBounded s → IsAmong s.node.quorums.nodes a → Acted a s t → (o : Option Step) → o ≡ would s a → IfSome o (λ x. Steps room s t (record_of room x))
 steps_by room s t a bounds among acted None told = tt
 steps_by room s t a bounds among acted (Some x) told = steps room s t a x bounds among told acted
 
-pub all_steps : (s t : SeatState) (a : Act) → IsBounded s → IsAmong s.node.quorums.nodes a → Acted a s t → (room : ℕ) → IfSome (would s a) (λ x. Steps room s t (record_of room x))
+pub all_steps : (s t : SeatState) (a : SeatAct) → IsBounded s → IsAmong s.node.quorums.nodes a → Acted a s t → (room : ℕ) → IfSome (would s a) (λ x. Steps room s t (record_of room x))
 all_steps s t a bounds among acted room = steps_by room s t a bounds among acted (would s a) refl
 
 -- ---- of all rooms

@@ -6,7 +6,7 @@ ghost use Rattle.farm_nodes_sweep_step.specs.Next.{asked_of, ballot_of, higher, 
 
 use farm_nodes_turn_order::WordSeat;
 use paxos_core_node_steps::step::Step;
-use rooms_crash::act::Act;
+use rooms_crash::act::SeatAct;
 
 /// How a node answers what it has seen of another.
 #[derive(Clone, Copy, Debug, PartialEq, Eq)]
@@ -19,34 +19,34 @@ pub(crate) enum Answer {
 
 impl Answer {
     /// The act by which it answers node `j`.
-    fn to(self, j: u8) -> Act
+    fn to(self, j: u8) -> SeatAct
         ensures { result ≡ asked_of self j }
     {
         match self {
-            Answer::Accept => Act::Accept(j),
-            Answer::Promise => Act::Promise(j),
+            Answer::Accept => SeatAct::Accept(j),
+            Answer::Promise => SeatAct::Promise(j),
         }
     }
 }
 
 /// The step that the node takes next in the room, where there is one: it accepts under the highest ballot that it may, or else
 /// promises the highest, or else proposes, or else starts a ballot, if it is to.
-pub fn next_act(seat: &WordSeat, starts: bool) -> Option<Act>
+pub fn next_act(seat: &WordSeat, starts: bool) -> Option<SeatAct>
     ensures some { IfSome result (IsNext starts seat.now) }
     ensures among { IfSome result (IsAmong seat.now.node.quorums.nodes) }
     ensures none { IfNone result (HasNoNext starts seat.now) }
 {
     if let Some(j) = highest(seat, Answer::Accept) {
-        return Some(Act::Accept(j));
+        return Some(SeatAct::Accept(j));
     }
     if let Some(j) = highest(seat, Answer::Promise) {
-        return Some(Act::Promise(j));
+        return Some(SeatAct::Promise(j));
     }
-    if seat.intent(Act::Propose).is_some() {
-        return Some(Act::Propose);
+    if seat.intent(SeatAct::Propose).is_some() {
+        return Some(SeatAct::Propose);
     }
-    if starts && seat.intent(Act::Start).is_some() {
-        return Some(Act::Start);
+    if starts && seat.intent(SeatAct::Start).is_some() {
+        return Some(SeatAct::Start);
     }
     None
 }

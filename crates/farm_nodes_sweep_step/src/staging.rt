@@ -10,12 +10,12 @@ use crate::choosing::next_act;
 use acceptor_log_form::Record;
 use farm_nodes_turn_order::WordSeat;
 use farm_nodes_turn_step::record_of;
-use rooms_crash::act::Act;
+use rooms_crash::act::SeatAct;
 
 /// A step that a node is about to take, and its record.
 #[derive(Drop)]
 pub struct Staged {
-    pub act: Act,
+    pub act: SeatAct,
     pub entry: Record,
 }
 
@@ -49,23 +49,23 @@ pub fn stage(seat: &WordSeat, room: u16, starts: bool) -> Option<Staged>
 }
 
 /// Does what it is asked, where that is a step. Its record, in any room, is of just this step.
-pub fn take(seat: &mut WordSeat, act: Act)
+pub fn take(seat: &mut WordSeat, act: SeatAct)
     requires { IsAmong seat.old.node.quorums.nodes act }
     ensures acted { Acted act seat.old seat.new }
     ensures steps { (room : ℕ) → IfSome (would seat.old act) (λ x. Steps room seat.old seat.new (record_of room x)) }
 {
     seat.bounds();
     match act {
-        Act::Start => {
+        SeatAct::Start => {
             let _ballot = seat.start();
         }
-        Act::Promise(j) => {
+        SeatAct::Promise(j) => {
             let _ballot = seat.promise(j);
         }
-        Act::Propose => {
+        SeatAct::Propose => {
             let _proposal = seat.propose();
         }
-        Act::Accept(j) => {
+        SeatAct::Accept(j) => {
             let _vote = seat.accept(j);
         }
     }

@@ -4,7 +4,7 @@ use Rattle.rand_pcg.specs.Lcg.{Lcg}
 use Rattle.rand_pcg.specs.Pcg.{pcg32}
 use Rattle.offers.specs.declared.parts.Parts.{Parts}
 use Rattle.farm_nodes_turn_room.specs.SeatValue.{SeatValue}
-use Rattle.farm_nodes_turn_room.specs.Act.TheVariants as asked
+use Rattle.farm_nodes_turn_room.specs.SeatAct.TheVariants as asked
 use Rattle.farm_nodes_turn_room.specs.Would.{would}
 use Rattle.farm_nodes_turn_room.specs.Quiet.{IsQuiet}
 use Rattle.farm_nodes_turn_room.specs.Leading.{HasDrawn, LeadsByLot}

@@ -8,7 +8,7 @@ use Rattle.farm_nodes_turn_passes.specs.ConstPropPass.TheImpl as constants
 use Rattle.farm_nodes_turn_passes.specs.CsePass.TheImpl as expressions
 use Rattle.farm_nodes_turn_passes.specs.AllocPass.TheImpl as allocation
 use Rattle.farm_nodes_turn_passes.specs.LinearizePass.TheImpl as order
-use Rattle.farm_nodes_turn_room.specs.Act.TheVariants as asked
+use Rattle.farm_nodes_turn_room.specs.SeatAct.TheVariants as asked
 use Rattle.farm_nodes_turn_room.specs.Would.{would}
 use Rattle.farm_nodes_turn_room.specs.SeatValue.{SeatValue, offer_of}
 use Rattle.farm_nodes_turn_room.specs.Quiet.{IsQuiet}

@@ -1,7 +1,7 @@
 ghost use Rattle.std.specs.Prelude.{◌≡◌, ◌<◌, ℕ, true, None, Some, IfOk, IfErr, OnOk};
 ghost use Rattle.rand_pcg.specs.Pcg.{pcg32};
 ghost use Rattle.acceptor_log.specs.Acknowledged.{IsSound};
-ghost use Rattle.farm_nodes_turn_room.specs.Act.TheVariants as asked;
+ghost use Rattle.farm_nodes_turn_room.specs.SeatAct.TheVariants as asked;
 ghost use Rattle.farm_nodes_turn_room.specs.Would.{would};
 ghost use Rattle.farm_nodes_turn_room.specs.Served.{IsServed};
 ghost use Rattle.farm_nodes_turn_room.specs.Quiet.{IsQuiet};

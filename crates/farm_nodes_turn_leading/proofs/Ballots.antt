@@ -14,7 +14,7 @@ use Rattle.paxos_core_node_steps.specs.Would as core
 use Rattle.paxos_core_node_steps.specs.declared.step.Step.{Step}
 use Rattle.paxos_core_node_steps.specs.declared.step.Step.TheVariants as step
 use Rattle.rooms_seat_state.specs.ProposerWord.{ProposerWord}
-use Rattle.rooms_seat_state.specs.declared.act.Act.TheVariants as act
+use Rattle.rooms_seat_state.specs.declared.act.SeatAct.TheVariants as act
 use Rattle.rooms_seat_state.specs.SeatState.{SeatState, proposer_of}
 use Rattle.rooms_seat_state.specs.Would.{would, Acted, IsStarted}
 use Rattle.farm_nodes_turn_leading.specs.Leading.{may_start, might_start, is_passed, HasLed, LeavesAll, StaysInRoom}

@@ -4,7 +4,7 @@ use Rattle.rand_pcg.specs.Lcg.{Lcg}
 use Rattle.rand_pcg.specs.Pcg.{pcg32}
 use Rattle.paxos_core_world.specs.KeptPart.{with_start}
 use Rattle.paxos_core_node_steps.specs.NodeState.{NodeState}
-use Rattle.rooms_seat_state.specs.declared.act.Act.TheVariants as act
+use Rattle.rooms_seat_state.specs.declared.act.SeatAct.TheVariants as act
 use Rattle.rooms_seat_state.specs.SeatState.{SeatState}
 use Rattle.rooms_seat_state.specs.Would.{would}
 use Rattle.farm_nodes_turn_step.specs.OfRun.{GoesOn}

@@ -3,7 +3,7 @@
 ghost use Rattle.std.specs.Prelude.{◌≡◌, ◌||◌, ℕ, None, IfOk, IfErr, OnOk};
 ghost use Rattle.rand_pcg.specs.Pcg.{pcg32};
 ghost use Rattle.acceptor_log.specs.Acknowledged.{IsSound};
-ghost use Rattle.rooms_seat_state.specs.declared.act.Act.TheVariants as asked;
+ghost use Rattle.rooms_seat_state.specs.declared.act.SeatAct.TheVariants as asked;
 ghost use Rattle.rooms_seat_state.specs.Would.{would};
 ghost use Rattle.farm_nodes_turn_step.specs.Noted.{IsActAmong};
 ghost use Rattle.farm_nodes_turn_step.specs.Served.{IsServed};
@@ -18,7 +18,7 @@ use farm_nodes_turn_order::WordSeat;
 use farm_nodes_turn_step::{Stop, act};
 use rand_core::utils::NextWord;
 use rand_pcg::Pcg32;
-use rooms_seat_state::act::Act;
+use rooms_seat_state::act::SeatAct;
 
 /// Proposes, and starts a ballot where the node may and the next word of its generator is 0 modulo 4. Answers whether it
 /// took a step. The word is drawn only where the node may start.
@@ -47,7 +47,7 @@ pub fn lead<D: Disk>(
     ensures journal { LogsActs D.Disk log.old log.new room seat.old seat.new result }
     ensures cause { MayStopFor D.Disk log.old log.new room seat.new result }
 {
-    let proposed = match act(log, seat, room, Act::Propose) {
+    let proposed = match act(log, seat, room, SeatAct::Propose) {
         Ok(proposed) => proposed,
         Err(stop) => return Err(stop),
     };
@@ -57,7 +57,7 @@ pub fn lead<D: Disk>(
     if draws.next_word() % 4 != 0 {
         return Ok(proposed);
     }
-    match act(log, seat, room, Act::Start) {
+    match act(log, seat, room, SeatAct::Start) {
         Ok(started) => Ok(either(proposed, started)),
         Err(stop) => Err(stop),
     }

@@ -28,8 +28,8 @@ module _ {D T1 T2 T3 T4 : Type 0} where
       IfSome failure (λ fault. HasHaltCause is_honest faults (TooLarge s) old new pending fault)
 
   -- What it tells is what was learned in the turn, and whether the journal has more records.
-  abbrev pub IsTold : (D → List ℕ) → Log D → Log D → Which → Turn → Four T1 T2 T3 T4 → Four T1 T2 T3 T4 → Type 0
-  IsTold seen old new pass turn s t =
+  abbrev pub IsToldOfTurn : (D → List ℕ) → Log D → Log D → Which → Turn → Four T1 T2 T3 T4 → Four T1 T2 T3 T4 → Type 0
+  IsToldOfTurn seen old new pass turn s t =
       turn ≡ turn_of (progress_of (words_of s pass).node.learned (words_of t pass).node.learned
       (nat_lt (length (acknowledged seen old)) (length (acknowledged seen new))))
 

@@ -15,7 +15,7 @@ use Rattle.farm_nodes_turn_node.specs.declared.farm_node.FarmNode.{FarmNode}
 use Rattle.farm_nodes_turn_node.specs.declared.turn.Turn.{Turn}
 use Rattle.farm_nodes_turn_node.specs.declared.turn.Turn.TheVariants as turn
 use Rattle.farm_nodes_turn_node.specs.Held.{fault_in, pending_in}
-use Rattle.farm_nodes_turn_node.specs.Stood.{IsTold, Stops, TurnsInto}
+use Rattle.farm_nodes_turn_node.specs.Stood.{IsToldOfTurn, Stops, TurnsInto}
 use Rattle.farm_nodes_turn_node.specs.Told.{failure_of}
 
 -- what is said of the seats in the rooms of a function, before and behind
@@ -61,7 +61,7 @@ module _ {D O H : Type 0} {h : naming.Ghosts H} where
     pub record TellsTurn (room : ℕ) (old new : FarmNode D O H h) (told : Turn) : Type 0 where
       pub fault : old.halted ≡ None → failure_of told ≡ fault_in new.halted
       pub cause : old.halted ≡ None → WithFunction room (FailsFor room old new told) old new
-      pub value : disk.is_honest old.log.disk → new.halted ≡ None → AtRoom room (IsTold disk.seen old.log new.log (pass_of room) told) old new
+      pub value : disk.is_honest old.log.disk → new.halted ≡ None → AtRoom room (IsToldOfTurn disk.seen old.log new.log (pass_of room) told) old new
 
     -- its journal stands for what it keeps now, and a crash within the turn leaves a beginning of its records
     abbrev pub JournalTurns : FarmNode D O H h → FarmNode D O H h → Type 0

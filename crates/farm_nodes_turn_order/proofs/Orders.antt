@@ -23,8 +23,8 @@ use Rattle.acceptor_log_form.specs.Text.{room_of}
 use Rattle.acceptor_log_form.specs.Leaves.{kept_by_record, kept_in, proposed_by, proposed_in}
 use Rattle.acceptor_log_form.specs.Order.{MayComeNext, MayFollow, AreInOrder}
 use Rattle.rooms_seat.proofs.Acts.{may_promise, vote_seen}
-use Rattle.rooms_seat.specs.Act.{Act}
-use Rattle.rooms_seat.specs.Act.TheVariants as act
+use Rattle.rooms_seat.specs.SeatAct.{SeatAct}
+use Rattle.rooms_seat.specs.SeatAct.TheVariants as act
 use Rattle.rooms_seat.specs.Did.{Did}
 use Rattle.rooms_seat.specs.Meeting.{IsBounded}
 use Rattle.rooms_seat.specs.SeatState.{SeatState, proposer_of, promise_of, vote_of}
@@ -172,7 +172,7 @@ module _ (room : ℕ) (s : SeatState) (bounds : IsBounded s) (last : ℕ) (fresh
       (omega (arith, first), leb-true s.node.kept.promised x.ballot parts.1, bounds.votes j x among e, ltb-true x.value s.node.quorums.nodes vote.1)
 
   -- the record of a step that the seat would take goes on from what it keeps
-  pub step_goes : (a : Act) (x : Step) → IsAmong s.node.quorums.nodes a → Some x ≡ would s a → Goes x
+  pub step_goes : (a : SeatAct) (x : Step) → IsAmong s.node.quorums.nodes a → Some x ≡ would s a → Goes x
   step_goes act.Start x among e =
       let m = map_is step.Start (next_start s.node) x e in
       subst Goes m.2 (start_goes m.0 m.1)
@@ -196,7 +196,7 @@ field_if f false s u e = refl
 unproposed_same : (last : ℕ) (s t : SeatState) → t.node.ballot ≡ s.node.ballot → t.node.proposed ≡ s.node.proposed → IsUnproposed last s → IsUnproposed last t
 unproposed_same last s t ballot proposed fresh b e none = fresh b (sym ballot ∙ e) (sym proposed ∙ none)
 
-module _ (room : ℕ) (s t : SeatState) (a : Act) (last : ℕ) (fresh : IsUnproposed last s) (low : last ≤ s.node.kept.started) (acted : Acted a s t) where
+module _ (room : ℕ) (s t : SeatState) (a : SeatAct) (last : ℕ) (fresh : IsUnproposed last s) (low : last ≤ s.node.kept.started) (acted : Acted a s t) where
   abbrev Leaves : Step → Type 0
   Leaves x = IsUnproposed (proposed_by last (record_of room x)) t
 
@@ -239,7 +239,7 @@ module _ (room : ℕ) (s t : SeatState) (a : Act) (last : ℕ) (fresh : IsUnprop
       fresh
 
 -- what a step leaves is not proposed again
-pub step_leaves : (room : ℕ) (s t : SeatState) (a : Act) (x : Step) (last : ℕ) → IsBounded s → IsAmong s.node.quorums.nodes a → Some x ≡ would s a → Acted a s t
+pub step_leaves : (room : ℕ) (s t : SeatState) (a : SeatAct) (x : Step) (last : ℕ) → IsBounded s → IsAmong s.node.quorums.nodes a → Some x ≡ would s a → Acted a s t
     → IsUnproposed last s → last ≤ s.node.kept.started → IsUnproposed (proposed_by last (record_of room x)) t
 step_leaves room s t act.Start x last bounds among e acted fresh low =
     let m = map_is step.Start (next_start s.node) x e in
@@ -273,7 +273,7 @@ pub record Follows (room : ℕ) (s t : SeatState) (r : Record) : Type 0 where
   pub goes : (last : ℕ) → IsUnproposed last s → MayComeNext s.node.quorums.nodes s.node.me s.node.kept last r
   pub leaves : (last : ℕ) → IsUnproposed last s → last ≤ s.node.kept.started → IsUnproposed (proposed_by last r) t
 
-pub step_follows : (room : ℕ) (s t : SeatState) (a : Act) (x : Step) (r : Record) → IsBounded s → IsAmong s.node.quorums.nodes a → Some x ≡ would s a → r ≡ record_of room x → Acted a s t
+pub step_follows : (room : ℕ) (s t : SeatState) (a : SeatAct) (x : Step) (r : Record) → IsBounded s → IsAmong s.node.quorums.nodes a → Some x ≡ would s a → r ≡ record_of room x → Acted a s t
     → kept_by_record s.node.kept r ≡ t.node.kept → Follows room s t r
 step_follows room s t a x r bounds among told is acted step = record {
   own = ap room_of is ∙ room_of_step room x;

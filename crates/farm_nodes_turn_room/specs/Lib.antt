@@ -14,4 +14,4 @@ pub use Rattle.farm_nodes_turn_offer.specs.declared.halt.Fault
 pub use Rattle.farm_nodes_turn_offer.specs.declared.halt.Halt
 pub use Rattle.rooms_seat_state.specs.SeatState
 pub use Rattle.rooms_seat_state.specs.Would
-pub use Rattle.rooms_seat_state.specs.declared.act.Act
+pub use Rattle.rooms_seat_state.specs.declared.act.SeatAct

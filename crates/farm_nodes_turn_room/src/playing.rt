@@ -1,7 +1,7 @@
 ghost use Rattle.std.specs.Prelude.{◌≡◌, ◌<◌, ◌||◌, ℕ, true, None, Some, IfOk, IfErr, OnOk, IsSome, option_copied};
 ghost use Rattle.rand_pcg.specs.Pcg.{pcg32};
 ghost use Rattle.acceptor_log.specs.Acknowledged.{IsSound};
-ghost use Rattle.rooms_seat_state.specs.declared.act.Act.TheVariants as asked;
+ghost use Rattle.rooms_seat_state.specs.declared.act.SeatAct.TheVariants as asked;
 ghost use Rattle.rooms_seat_state.specs.Would.{would};
 ghost use Rattle.farm_nodes_turn_offer.specs.SeatValue.{IsOneRoom};
 ghost use Rattle.farm_nodes_turn_offer.specs.Served.{IsServed};

@@ -14,8 +14,8 @@ use Rattle.paxos_core_node_steps.specs.declared.step.Step.{Step}
 use Rattle.paxos_core_node_steps.specs.declared.step.Step.TheVariants as step
 use Rattle.rooms_crash.specs.AcceptorWord.{AcceptorWord}
 use Rattle.rooms_crash.specs.ProposerWord.{ProposerWord}
-use Rattle.rooms_crash.specs.Act.{Act}
-use Rattle.rooms_crash.specs.Act.TheVariants as act
+use Rattle.rooms_crash.specs.SeatAct.{SeatAct}
+use Rattle.rooms_crash.specs.SeatAct.TheVariants as act
 use Rattle.rooms_crash.specs.Did.{Did, LookedAtProposer, LookedAtAcceptor, NotesOf}
 use Rattle.rooms_crash.specs.SeatState.{SeatState, no_proposer, proposer_of, promise_of, vote_of, vote_by}
 use Rattle.rooms_crash.specs.Would.{would, act_of, proposed_by_step, Acted}
@@ -149,7 +149,7 @@ ballot_if : (t : Bool) (s u : NodeState) → u.ballot ≡ s.ballot → (cond t u
 ballot_if true s u e = e
 ballot_if false s u e = refl
 
-pub did_of : (a : Act) (s t : SeatState) (x : Step) → Acted a s t → would s a ≡ Some x → Did (act_of x) (proposed_by_step x s.proposed) s t
+pub did_of : (a : SeatAct) (s t : SeatState) (x : Step) → Acted a s t → would s a ≡ Some x → Did (act_of x) (proposed_by_step x s.proposed) s t
 did_of a s t x acted e = subst (λ (o : Option Step). IfSome o (λ y. Did (act_of y) (proposed_by_step y s.proposed) s t)) e acted.stepped
 
 voted_if : (j : ℕ) (s t : SeatState) (o : Option Vote) → Acted (act.Accept j) s t → o ≡ vote_of s j → (would s (act.Accept j) ≡ None) ⊎ HasVoted j s t

@@ -17,8 +17,8 @@ use Rattle.acceptor_log_form.specs.declared.record.Record.{Record}
 use Rattle.acceptor_log_form.specs.Leaves.{kept_by_record}
 use Rattle.acceptor_log.specs.declared.log.Log.{Log}
 use Rattle.acceptor_log.specs.Acknowledged.{IsNoFault}
-use Rattle.rooms_crash.specs.Act.{Act}
-use Rattle.rooms_crash.specs.Act.TheVariants as act
+use Rattle.rooms_crash.specs.SeatAct.{SeatAct}
+use Rattle.rooms_crash.specs.SeatAct.TheVariants as act
 use Rattle.rooms_crash.specs.Did.{Did}
 use Rattle.rooms_crash.specs.SeatState.{SeatState, proposer_of, promise_of, vote_of}
 use Rattle.rooms_crash.specs.Would.{would, act_of, proposed_by_step, IsStarted, ProposesNoMore, Acted}
@@ -33,14 +33,14 @@ use Rattle.farm_nodes_turn_order.proofs.Records.{kept_step}
 some_is : (s : Step) (o : Option Step) → o ≡ Some s → o ≡ None → ⊥
 some_is s o e n = let bad : Some s ≡ None = sym e ∙ n in cc
 
-no_more_none : (a : Act) (s : SeatState) → would s a ≡ None → ProposesNoMore a (would s a) s
+no_more_none : (a : SeatAct) (s : SeatState) → would s a ≡ None → ProposesNoMore a (would s a) s
 no_more_none act.Start s e = λ d. absurd (d e)
 no_more_none (act.Promise j) s e = tt
 no_more_none act.Propose s e = e
 no_more_none (act.Accept j) s e = tt
 
 -- a seat that told no step, and was not asked
-pub none_acted : (a : Act) (s : SeatState) → would s a ≡ None → Acted a s s
+pub none_acted : (a : SeatAct) (s : SeatState) → would s a ≡ None → Acted a s s
 none_acted a s e =
     record {
       stepped = subst (λ (o : Option Step). IfSome o (λ x. Did (act_of x) (proposed_by_step x s.proposed) s s)) (sym e) tt;
@@ -62,7 +62,7 @@ byte_map : {A : Type 0} (f : A → Step) (o : Option A) (x : Step) → ((y : A) 
 byte_map f None x h e = absurd (cc)
 byte_map f (Some y) x h e = let same : f y ≡ x = cc in subst IsByte same (h y refl)
 
-pub told_byte : (s : SeatState) (a : Act) (x : Step) → IsBounded s → Some x ≡ would s a → IsByte x
+pub told_byte : (s : SeatState) (a : SeatAct) (x : Step) → IsBounded s → Some x ≡ would s a → IsByte x
 told_byte s act.Start x bounds e = byte_map step.Start (next_start s.node) x (λ y is. tt) e
 told_byte s (act.Promise j) x bounds e = byte_map step.Promise (promise_of s j) x (λ y is. tt) e
 told_byte s act.Propose x bounds e = byte_map (λ (p : ℕ × ℕ). step.Propose p.0 p.1) (next_proposal s.node) x (λ y is. tt) e
@@ -77,12 +77,12 @@ told_byte s (act.Accept j) x bounds e =
     e
 
 -- it leaves of the room what the step leaves of the seat
-pub step_kept : (room : ℕ) (s t : SeatState) (a : Act) (x : Step) (r : Record) → Some x ≡ would s a → r ≡ record_of room x → Acted a s t → kept_by_record s.node.kept r ≡ t.node.kept
+pub step_kept : (room : ℕ) (s t : SeatState) (a : SeatAct) (x : Step) (r : Record) → Some x ≡ would s a → r ≡ record_of room x → Acted a s t → kept_by_record s.node.kept r ≡ t.node.kept
 step_kept room s t a x r told is acted =
     ap (λ (q : Record). kept_by_record s.node.kept q) is
     ∙ (kept_step room x s.node.kept ∙ (ap (λ (o : Option Step). core.kept_by_step o s.node.kept) told ∙ sym acted.kept))
 
-pub pending_is : (room : ℕ) (s : SeatState) (a : Act) (x : Step) (r : Record) → Some x ≡ would s a → r ≡ record_of room x → records_of room (would s a) ≡ r ∷ []
+pub pending_is : (room : ℕ) (s : SeatState) (a : SeatAct) (x : Step) (r : Record) → Some x ≡ would s a → r ≡ record_of room x → records_of room (would s a) ≡ r ∷ []
 pending_is room s a x r told is = ap (records_of room) (sym told) ∙ ap (λ (q : Record). q ∷ []) (sym is)
 
 pub more : (old new : List Record) (r : Record) → new ≡ old ++ r ∷ [] → true ≡ ltb (length old) (length new)

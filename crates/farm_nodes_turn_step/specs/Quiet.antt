@@ -1,6 +1,6 @@
 -- A seat with nothing left to answer, and what hearing others leaves of a seat.
 use Rattle.std.specs.Prelude.{◌≡◌, ℕ, ◌≤◌, Some, None}
-use Rattle.rooms_crash.specs.Act.TheVariants as act
+use Rattle.rooms_crash.specs.SeatAct.TheVariants as act
 use Rattle.rooms_crash.specs.SeatState.{SeatState}
 use Rattle.rooms_crash.specs.Would.{would}
 use Rattle.rooms_crash.specs.OfRun.{GoesOn}

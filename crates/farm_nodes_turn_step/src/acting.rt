@@ -15,14 +15,14 @@ use acceptor_log_form::Record;
 use durable_model::Disk;
 use farm_nodes_turn_order::WordSeat;
 use paxos_core_node_steps::step::Step;
-use rooms_crash::act::Act;
+use rooms_crash::act::SeatAct;
 
 /// Does what it is asked, where that is a step: puts down its record, and then takes it. Answers whether it took one.
 pub fn act<D: Disk>(
     log: &mut Log<D>,
     seat: &mut WordSeat,
     room: u16,
-    act: Act,
+    act: SeatAct,
 ) -> Result<bool, Stop>
     requires sound { IsSound D.is_honest D.seen D.may_leave log.old }
     requires among { IsAmong seat.old.node.quorums.nodes act }
@@ -69,22 +69,22 @@ pub fn record_of(room: u16, step: Step) -> Record
 }
 
 /// Does what it is asked.
-fn take(seat: &mut WordSeat, act: Act)
+fn take(seat: &mut WordSeat, act: SeatAct)
     requires { IsAmong seat.old.node.quorums.nodes act }
     ensures { Acted act seat.old seat.new }
 {
     match act {
-        Act::Start => {
+        SeatAct::Start => {
             seat.bounds();
             let _ballot = seat.start();
         }
-        Act::Promise(j) => {
+        SeatAct::Promise(j) => {
             let _ballot = seat.promise(j);
         }
-        Act::Propose => {
+        SeatAct::Propose => {
             let _proposal = seat.propose();
         }
-        Act::Accept(j) => {
+        SeatAct::Accept(j) => {
             let _vote = seat.accept(j);
         }
     }

@@ -13,7 +13,7 @@ use crate::stop::Stop;
 use acceptor_log::Log;
 use durable_model::Disk;
 use farm_nodes_turn_order::WordSeat;
-use rooms_crash::act::Act;
+use rooms_crash::act::SeatAct;
 
 /// Hears every node, its own number too. Answers whether it took a step.
 pub fn hear_all<D: Disk>(log: &mut Log<D>, seat: &mut WordSeat, room: u16) -> Result<bool, Stop>
@@ -82,12 +82,12 @@ fn answer<D: Disk>(log: &mut Log<D>, seat: &mut WordSeat, room: u16, j: u8) -> R
     ensures cause { log.old.going ≡ true → IfErr result (StopsFor D.Disk log.old log.new room seat.new) }
 {
     seat.bounds();
-    let moved = match act(log, seat, room, Act::Accept(j)) {
+    let moved = match act(log, seat, room, SeatAct::Accept(j)) {
         Ok(moved) => moved,
         Err(stop) => return Err(stop),
     };
     if moved {
         return Ok(true);
     }
-    act(log, seat, room, Act::Promise(j))
+    act(log, seat, room, SeatAct::Promise(j))
 }

@@ -1,11 +1,11 @@
 use acceptor_log_form::{LogError, Record};
-use rooms_crash::act::Act;
+use rooms_crash::act::SeatAct;
 
 /// What a node was about to do when it was stopped.
 #[derive(PartialEq, Eq, Drop)]
 pub enum Pending {
     /// A step of the protocol.
-    Act(Act),
+    Act(SeatAct),
     /// Its offer, whose record is this.
     Offer(Record),
 }

@@ -11,7 +11,7 @@ use Rattle.paxos_core_world.specs.World.{nodes_of}
 use Rattle.rooms_cells.specs.declared.sight.Put.{Put}
 use Rattle.rooms_cells.specs.declared.sight.Put.TheVariants as put
 use Rattle.rooms_cells.specs.Seen.{SightOf, Read, StaysSeen, nothing_seen, sight_at, unseen, value_at}
-use Rattle.rooms_seat.specs.Act.{Act}
+use Rattle.rooms_seat.specs.SeatAct.{SeatAct}
 use Rattle.rooms_seat.specs.Opening.{Opening}
 use Rattle.rooms_seat.specs.RoomAt.{RoomAt}
 use Rattle.rooms_seat.specs.SeatState.{SeatState, opening_of}
@@ -38,7 +38,7 @@ offered_by (Some (step.Promise b)) k = refl
 offered_by (Some (step.Propose b v)) k = refl
 offered_by (Some (step.Accept b v)) k = refl
 
-pub filled_acted : {T : Type 0} (a : Act) (old new : SeatState) (ss : List (SightOf T)) → Acted a old new → IsFilled (seat_of old ss) → IsFilled (seat_of new ss)
+pub filled_acted : {T : Type 0} (a : SeatAct) (old new : SeatState) (ss : List (SightOf T)) → Acted a old new → IsFilled (seat_of old ss) → IsFilled (seat_of new ss)
 filled_acted {T} a old new ss acted h =
     filled_still {T = T} old new ss acted.me (ap (λ (k : KeptPart). k.offered) acted.kept ∙ offered_by (would old a) old.node.kept) h
 

@@ -3,7 +3,7 @@ use Rattle.std.proofs.Common.{◌≡◌, ℕ, ◌<◌, ◌≤◌, ◌↔◌, Boo
 use Rattle.std.proofs.lemmas.Bool.{le-leb, leb-true}
 use Rattle.paxos_core_node_steps.specs.Proposer.{next_ballot}
 use Rattle.paxos_core_node_steps.specs.declared.step.Step.TheVariants as step
-use Rattle.rooms_seat.specs.Act.TheVariants as act
+use Rattle.rooms_seat.specs.SeatAct.TheVariants as act
 use Rattle.rooms_seat.specs.SeatState.{SeatState}
 use Rattle.rooms_seat.specs.Would.{would}
 

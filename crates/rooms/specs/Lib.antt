@@ -9,5 +9,5 @@ pub use Rattle.rooms_seat.specs.SeatState
 pub use Rattle.rooms_seat.specs.Did
 pub use Rattle.rooms_seat.specs.RoomAt
 pub use Rattle.rooms_seat.specs.Would
-pub use Rattle.rooms_seat.specs.Act
+pub use Rattle.rooms_seat.specs.SeatAct
 pub use Rattle.rooms_seat.specs.Opening

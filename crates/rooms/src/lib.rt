@@ -13,7 +13,7 @@ pub use error::RoomError;
 pub use meeting::meet;
 pub use room::{Room, seats_of};
 pub use rooms_cells::Put;
-pub use rooms_seat::act::Act;
+pub use rooms_seat::act::SeatAct;
 pub use rooms_seat::{
     CoreError, FourDealers, Meeting, WordSeat, acceptor, act, open_four, proposer,
 };

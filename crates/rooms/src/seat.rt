@@ -11,7 +11,7 @@ ghost use Rattle.rooms_seat.specs.Meeting.{IsBounded, IsKnown};
 ghost use Rattle.rooms_seat.specs.Did.{Forgotten, LookedAtAcceptor, LookedAtProposer, NotesOf};
 ghost use Rattle.rooms_seat.specs.SeatState.{seen_world};
 ghost use Rattle.rooms_seat.specs.Would.{would, Acted, IsAmong};
-ghost use Rattle.rooms_seat.specs.Act.TheVariants as act;
+ghost use Rattle.rooms_seat.specs.SeatAct.TheVariants as act;
 ghost use Rattle.rooms.specs.SeatValue.{IsFilled, IsOffered, IsOneRoom, offer_of};
 
 use lang_base::Pass;
@@ -21,7 +21,7 @@ use paxos_core_world::kept::Kept;
 use paxos_core_world::vote::Vote;
 use rooms_cells::{Put, Sights};
 use rooms_seat::acceptor::AcceptorWord;
-use rooms_seat::act::Act;
+use rooms_seat::act::SeatAct;
 use rooms_seat::proposer::ProposerWord;
 use rooms_seat::{CoreError, WordSeat};
 use std::alloc::Global;
@@ -68,7 +68,7 @@ impl<P: Pass> Seat<P> {
     }
 
     /// The step that `start`, `promise(j)`, `propose` or `accept(j)` would take now: none where it would take none.
-    pub fn intent(&self, act: Act) -> Option<Step>
+    pub fn intent(&self, act: SeatAct) -> Option<Step>
         requires { IsAmong self.now.words.node.quorums.nodes act }
         ensures { result ≡ would self.now.words act }
     {

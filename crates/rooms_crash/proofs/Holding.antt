@@ -16,8 +16,8 @@ use Rattle.paxos_core_node_steps.specs.declared.step.Step.TheVariants as step
 use Rattle.paxos_core_crash.specs.LateOffer.{BelongsWithLateOffer}
 use Rattle.paxos_core_crash.specs.Crash.{IsRecorded, Nothing, ToOffer, ToDo}
 use Rattle.paxos_core_crash.proofs.JournalLemmas.{journals_are_recorded}
-use Rattle.rooms_meeting.specs.Act.{Act}
-use Rattle.rooms_meeting.specs.Act.TheVariants as act
+use Rattle.rooms_meeting.specs.SeatAct.{SeatAct}
+use Rattle.rooms_meeting.specs.SeatAct.TheVariants as act
 use Rattle.rooms_meeting.specs.SeatState.{SeatState, proposer_of, seen_world, vote_by}
 use Rattle.rooms_meeting.specs.Would.{would, IsAmong}
 use Rattle.rooms_words.proofs.RunLemmas.{legal_reached}
@@ -79,7 +79,7 @@ module _ (s : SeatState) (stands : StandsInRun s) where
   among : (j : ℕ) → j < s.node.quorums.nodes → j < q.nodes
   among j lt = subst (λ (k : ℕ). j < k) (ap (λ (x : Sizes). x.nodes) stands.quorums) lt
 
-  asked : (a : Act) → IsAmong s.node.quorums.nodes a → IsRecorded q (seen_world s) s.node.me (kept_by_step (would s a) s.node.kept)
+  asked : (a : SeatAct) → IsAmong s.node.quorums.nodes a → IsRecorded q (seen_world s) s.node.me (kept_by_step (would s a) s.node.kept)
   asked act.Start lt = journals_are_recorded q (seen_world s) s.node (ToDo core_act.Start) reached belongs tt
   asked (act.Promise j) lt =
       with_promise_of q (seen_world s) s.node reached belongs (proposer_of s j).started (stands.proposers j (among j lt)).prepare

@@ -32,8 +32,8 @@ use Rattle.rooms_words.specs.Steps.{Advances, Forgot}
 use Rattle.rooms_words.specs.declared.view.View.{View}
 use Rattle.rooms_words.specs.Views.{world_after}
 use Rattle.rooms_meeting.specs.Would.{would, act_of, proposed_by_step, Acted}
-use Rattle.rooms_meeting.specs.Act.{Act}
-use Rattle.rooms_meeting.specs.Act.TheVariants as act
+use Rattle.rooms_meeting.specs.SeatAct.{SeatAct}
+use Rattle.rooms_meeting.specs.SeatAct.TheVariants as act
 use Rattle.rooms_meeting.proofs.HearLemmas.{me_hearing}
 use Rattle.rooms_meeting.proofs.Moves.{kept_hearing, proposer_stays_seen}
 use Rattle.rooms_meeting.proofs.Opened.{opened_sound}
@@ -306,11 +306,11 @@ vote_told None s e = absurd (cc)
 vote_told (Some x) s e = (x, cc)
 
 -- what is asked, by the step that is taken
-record Asked (a : Act) (s : Step) (old : SeatState) : Type 0 where
+record Asked (a : SeatAct) (s : Step) (old : SeatState) : Type 0 where
   pub may : WouldAs (act_of s) old.node
   pub start : act_of s ≡ core_act.Start → a ≡ act.Start
 
-asked : (a : Act) (s : Step) (old : SeatState) → would old a ≡ Some s → Asked a s old
+asked : (a : SeatAct) (s : Step) (old : SeatState) → would old a ≡ Some s → Asked a s old
 asked act.Start s old e =
     let told = start_told _ s e in
     subst (λ (x : Step). Asked act.Start x old) (sym told.1) (record { may = tt; start = λ is. refl })
@@ -327,7 +327,7 @@ asked (act.Accept j) s old e =
     subst (λ (x : Step). Asked (act.Accept j) x old) (sym told.1)
     (record { may = tt; start = λ is. let bad : core_act.Accept told.0.ballot told.0.value ≡ core_act.Start = is in absurd (cc) })
 
-module _ (a : Act) (old new : SeatState) (acted : Acted a old new) (h : IsOfRun old) where
+module _ (a : SeatAct) (old new : SeatState) (acted : Acted a old new) (h : IsOfRun old) where
   did_of : (s : Step) → would old a ≡ Some s → Did (act_of s) (proposed_by_step s old.proposed) old new
   did_of s e = subst (λ (o : Option Step). IfSome o (λ x. Did (act_of x) (proposed_by_step x old.proposed) old new)) e acted.stepped
 
@@ -342,16 +342,16 @@ module _ (a : Act) (old new : SeatState) (acted : Acted a old new) (h : IsOfRun 
       let of = asked a s old e in
       did_first (act_of s) (proposed_by_step s old.proposed) old new (did_of s e) h of.may (λ is. offered (of.start is))
 
-pub acted_stands : (a : Act) (old new : SeatState) → Acted a old new → IsOfRun old → StandsInRun new
+pub acted_stands : (a : SeatAct) (old new : SeatState) → Acted a old new → IsOfRun old → StandsInRun new
 acted_stands a old new acted h = stands_by a old new acted h (would old a) refl
 
-offered_for : (a : Act) (s : SeatState) → HasOfferedFor a s → a ≡ act.Start → s.node.kept.offered ≡ true
+offered_for : (a : SeatAct) (s : SeatState) → HasOfferedFor a s → a ≡ act.Start → s.node.kept.offered ≡ true
 offered_for act.Start s h e = h
 offered_for (act.Promise j) s h e = absurd (cc)
 offered_for act.Propose s h e = absurd (cc)
 offered_for (act.Accept j) s h e = absurd (cc)
 
-pub acted_of_run : (a : Act) (old new : SeatState) → Acted a old new → HasOfferedFor a old → IsOfRun old → IsOfRun new
+pub acted_of_run : (a : SeatAct) (old new : SeatState) → Acted a old new → HasOfferedFor a old → IsOfRun old → IsOfRun new
 acted_of_run a old new acted offered h = record {
   stands = stands_by a old new acted h (would old a) refl;
   offered_first = first_by a old new acted h (would old a) refl (offered_for a old offered);
@@ -488,7 +488,7 @@ goes_looking_at_acceptor j x old new look = record {
   of_run = looked_at_acceptor j x old new look;
 }
 
-pub acted_opening : (a : Act) (old new : SeatState) → Acted a old new → new.view.opening ≡ old.view.opening
+pub acted_opening : (a : SeatAct) (old new : SeatState) → Acted a old new → new.view.opening ≡ old.view.opening
 acted_opening a old new acted = by (would old a) refl
   where
     by : (o : Option Step) → would old a ≡ o → new.view.opening ≡ old.view.opening
@@ -498,7 +498,7 @@ acted_opening a old new acted = by (would old a) refl
         subst (λ (o : Option Step). IfSome o (λ x. Did (act_of x) (proposed_by_step x old.proposed) old new)) e acted.stepped in
         ap (λ (z : View). z.opening) did.took.advances.stays
 
-pub goes_acting : (a : Act) (old new : SeatState) → Acted a old new → HasOfferedFor a old → GoesOn old new
+pub goes_acting : (a : SeatAct) (old new : SeatState) → Acted a old new → HasOfferedFor a old → GoesOn old new
 goes_acting a old new acted offered = record {
   opening = acted_opening a old new acted;
   of_run = acted_of_run a old new acted offered;
@@ -516,7 +516,7 @@ goes_forgetting old new f = record {
   of_run = λ h. forgotten_of_run old new f h.stands;
 }
 
-pub goes_done : (a : Act) (old between new : SeatState) → Acted a old between → Forgotten between new → GoesOn old new
+pub goes_done : (a : SeatAct) (old between new : SeatState) → Acted a old between → Forgotten between new → GoesOn old new
 goes_done a old between new acted f = record {
   opening = forgotten_opening between new f ∙ acted_opening a old between acted;
   of_run = λ h. forgotten_of_run between new f (acted_stands a old between acted h);

@@ -3,7 +3,7 @@ use Rattle.std.specs.Prelude.{◌≡◌, ◌⊎◌}
 use Rattle.paxos_core_world.specs.KeptPart.{KeptPart, with_offer}
 use Rattle.paxos_core_node_steps.specs.Would.{kept_by_step}
 use Rattle.paxos_core_crash.specs.Crash.{IsRecorded}
-use Rattle.rooms_meeting.specs.Act.{Act}
+use Rattle.rooms_meeting.specs.SeatAct.{SeatAct}
 use Rattle.rooms_meeting.specs.SeatState.{SeatState, seen_world}
 use Rattle.rooms_meeting.specs.Would.{would, IsAmong}
 use Rattle.rooms_crash.specs.OfRun.{StandsInRun}
@@ -12,7 +12,7 @@ use Rattle.rooms_crash.specs.OfRun.{StandsInRun}
 abbrev pub MayHold : SeatState → KeptPart → Type 0
 MayHold s k =
     (k ≡ s.node.kept) ⊎ (k ≡ with_offer s.node.kept)
-    ⊎ ((a : Act) × IsAmong s.node.quorums.nodes a × (k ≡ kept_by_step (would s a) s.node.kept))
+    ⊎ ((a : SeatAct) × IsAmong s.node.quorums.nodes a × (k ≡ kept_by_step (would s a) s.node.kept))
 
 -- ---- the promise
 

@@ -7,7 +7,7 @@ ghost use Rattle.paxos_core_node_steps.specs.declared.step.Step.TheVariants as s
 ghost use Rattle.paxos_core_world.specs.declared.vote.Vote.{Vote};
 ghost use Rattle.rooms.specs.Did.{Forgotten, LookedAtAcceptor, LookedAtProposer};
 ghost use Rattle.rooms.specs.Would.{would, Acted, IsAmong};
-ghost use Rattle.rooms.specs.Act.TheVariants as act;
+ghost use Rattle.rooms.specs.SeatAct.TheVariants as act;
 ghost use Rattle.rooms_function.specs.Pass.{words_in, HasLearned, IsOnlyIn};
 
 use crate::seat::FunctionSeat;
@@ -17,12 +17,12 @@ use paxos_core_world::kept::Kept;
 use paxos_core_world::vote::Vote;
 use rooms::CoreError;
 use rooms::acceptor::AcceptorWord;
-use rooms::act::Act;
+use rooms::act::SeatAct;
 use rooms::proposer::ProposerWord;
 
 impl FunctionSeat {
     /// The step that `start`, `promise(j)`, `propose` or `accept(j)` would take now: none where it would take none.
-    pub fn intent(&self, pass: u8, act: Act) -> Option<Step>
+    pub fn intent(&self, pass: u8, act: SeatAct) -> Option<Step>
         requires some { 0 < pass }
         requires most { pass ≤ 4 }
         requires among { IsAmong (words_in pass self.now).node.quorums.nodes act }

@@ -6,7 +6,7 @@ ghost use Rattle.paxos_core_node_steps.specs.declared.step.Step.TheVariants as s
 ghost use Rattle.paxos_core_world.specs.declared.vote.Vote.{Vote};
 ghost use Rattle.rooms.specs.Did.{Forgotten};
 ghost use Rattle.rooms.specs.Would.{would, Acted};
-ghost use Rattle.rooms.specs.Act.TheVariants as act;
+ghost use Rattle.rooms.specs.SeatAct.TheVariants as act;
 
 use paxos_core_world::vote::Vote;
 use rooms::{CoreError, WordSeat};

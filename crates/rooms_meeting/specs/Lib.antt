@@ -7,4 +7,4 @@ pub use Rattle.rooms_seat_state.specs.RoomAt
 pub use Rattle.rooms_seat_state.specs.SeatState
 pub use Rattle.rooms_seat_state.specs.Sound
 pub use Rattle.rooms_seat_state.specs.Would
-pub use Rattle.rooms_seat_state.specs.declared.act.Act
+pub use Rattle.rooms_seat_state.specs.declared.act.SeatAct

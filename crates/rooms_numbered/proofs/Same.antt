@@ -8,7 +8,7 @@ use Rattle.rooms_hall.specs.RoomId.{AreNumbered, RoomId, no_table}
 use Rattle.rooms_function.specs.declared.meeting.FunctionMeeting.{FunctionMeeting}
 use Rattle.rooms_function.specs.declared.seat.FunctionSeat.{FunctionSeat}
 use Rattle.rooms_function.specs.Met.{IsOneFunction}
-use Rattle.rooms_numbered.specs.FunctionOf.{function_of, AreStrangers}
+use Rattle.rooms_numbered.specs.FunctionOf.{function_of, ShareNoRoom}
 
 abbrev no_place : RoomAt
 no_place = record { table = no_table; rooms = 0; room = 0; number = 0 }
@@ -46,7 +46,7 @@ same_room s = record { table = refl; cells = refl }
 
 -- and those with claims to two numbers are strangers: their tables were opened with these
 pub strangers : (c d : Claimed) (a b : FunctionSeat) → c.room ≡ function_of a → d.room ≡ function_of b → AreNumbered c.number c.room.places → AreNumbered d.number d.room.places
-    → c.number ≢ d.number → AreStrangers a b
+    → c.number ≢ d.number → ShareNoRoom a b
 strangers c d a b ec ed nc nd away =
     let na : AreNumbered c.number (function_of a).places = subst (λ (r : RoomId). AreNumbered c.number r.places) ec nc in
     let nb : AreNumbered d.number (function_of b).places = subst (λ (r : RoomId). AreNumbered d.number r.places) ed nd in

@@ -16,7 +16,7 @@ function_of s =
     }
 
 -- in no pass are they of one room
-pub record AreStrangers (a b : FunctionSeat) : Type 0 where
+pub record ShareNoRoom (a b : FunctionSeat) : Type 0 where
   pub first : ¬ IsOneRoom a.first b.first
   pub second : ¬ IsOneRoom a.second b.second
   pub third : ¬ IsOneRoom a.third b.third

@@ -1,6 +1,6 @@
 ghost use Rattle.std.specs.Prelude.{◌≡◌, ◌≢◌, ◌↔◌, None, IfSome};
 ghost use Rattle.rooms_function.specs.Met.{IsOneFunction};
-ghost use Rattle.rooms_numbered.specs.FunctionOf.{AreAsBefore, AreStrangers, HaveMetIn};
+ghost use Rattle.rooms_numbered.specs.FunctionOf.{AreAsBefore, ShareNoRoom, HaveMetIn};
 
 use crate::seat::NumberedSeat;
 use rooms_function::FunctionMeeting;
@@ -14,7 +14,7 @@ pub fn meet<H: Naming>(
     first: &mut NumberedSeat<H>,
     second: &mut NumberedSeat<H>,
 ) -> Option<FunctionMeeting>
-    ensures strangers { result ≡ None → AreStrangers first.old.seat second.old.seat }
+    ensures strangers { result ≡ None → ShareNoRoom first.old.seat second.old.seat }
     ensures numbers { (result ≡ None) ↔ (first.old.claim.number ≢ second.old.claim.number) }
     ensures apart { AreAsBefore result first.old.seat second.old.seat first.new.seat second.new.seat }
     ensures same { IfSome result (λ m. IsOneFunction first.old.seat second.old.seat) }

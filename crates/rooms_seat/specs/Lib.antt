@@ -6,5 +6,5 @@ pub use Rattle.rooms_words.specs.declared.proposer.ProposerWord
 pub use Rattle.rooms_meeting.specs.Did
 pub use Rattle.rooms_meeting.specs.SeatState
 pub use Rattle.rooms_meeting.specs.Would
-pub use Rattle.rooms_meeting.specs.Act
+pub use Rattle.rooms_meeting.specs.SeatAct
 pub use Rattle.rooms_words.specs.declared.view.Opening

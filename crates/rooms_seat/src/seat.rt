@@ -3,7 +3,7 @@ ghost use Rattle.rooms_words.specs.Proposer.{next_ballot, next_proposal};
 ghost use Rattle.rooms_words.specs.Act.TheVariants as act;
 ghost use Rattle.rooms_meeting.specs.Did.{Did, Forgotten, LookedAtAcceptor, LookedAtProposer};
 ghost use Rattle.rooms_meeting.specs.Would.{would, IsAmong};
-ghost use Rattle.rooms_meeting.specs.Act.TheVariants as asked;
+ghost use Rattle.rooms_meeting.specs.SeatAct.TheVariants as asked;
 ghost use Rattle.rooms_words.specs.NodeState.{offered};
 ghost use Rattle.rooms_seat.specs.Meeting.{IsBounded, IsKnown};
 ghost use Rattle.rooms_meeting.specs.SeatState.{opened_seat, own_words, CanOpen, promise_of, proposer_of, seen_world, vote_by, vote_of};
@@ -20,7 +20,7 @@ use crate::opening::opened_words;
 use paxos_core_world::kept::Kept;
 use paxos_core_world::msg::Msg;
 use paxos_core_world::vote::Vote;
-use rooms_meeting::act::Act;
+use rooms_meeting::act::SeatAct;
 use rooms_meeting::{Rights, SeenWords};
 use rooms_words::acceptor::AcceptorWord;
 use rooms_words::proposer::ProposerWord;
@@ -213,18 +213,18 @@ impl WordSeat {
     }
 
     /// The step that `start`, `promise(j)`, `propose` or `accept(j)` would take now: none where it would take none.
-    pub fn intent(&self, act: Act) -> Option<Step>
+    pub fn intent(&self, act: SeatAct) -> Option<Step>
         requires { IsAmong self.now.node.quorums.nodes act }
         ensures { result ≡ would self.now act }
     {
         match act {
-            Act::Start => Some(Step::Start(self.node.next_start()?)),
-            Act::Promise(j) => self.intent_to_promise(j),
-            Act::Propose => {
+            SeatAct::Start => Some(Step::Start(self.node.next_start()?)),
+            SeatAct::Promise(j) => self.intent_to_promise(j),
+            SeatAct::Propose => {
                 let (ballot, value) = self.node.proposal()?;
                 Some(Step::Propose(ballot, value))
             }
-            Act::Accept(j) => self.intent_to_accept(j),
+            SeatAct::Accept(j) => self.intent_to_accept(j),
         }
     }
 

@@ -21,8 +21,8 @@ use Rattle.paxos_core_node_steps.proofs.WouldLemmas.{told_is_done, proposed_once
 use Rattle.rooms_words.specs.Heard.{after_shown_vote, after_hearing}
 use Rattle.rooms_words.specs.declared.acceptor.AcceptorWord.{AcceptorWord}
 use Rattle.rooms_steps.proofs.HearLemmas.{me_hearing}
-use Rattle.rooms_seat_state.specs.declared.act.Act.{Act}
-use Rattle.rooms_seat_state.specs.declared.act.Act.TheVariants as act
+use Rattle.rooms_seat_state.specs.declared.act.SeatAct.{SeatAct}
+use Rattle.rooms_seat_state.specs.declared.act.SeatAct.TheVariants as act
 use Rattle.rooms_seat_state.specs.Did.{Did, LookedAtAcceptor, NotesOf}
 use Rattle.rooms_seat_state.specs.SeatState.{SeatState, no_acceptor, proposer_of, promise_of, vote_of}
 use Rattle.rooms_seat_state.specs.Would.{would, act_of, proposed_by_step, IsStarted, ProposesNoMore, Acted}
@@ -62,7 +62,7 @@ quorums_act s (core_act.Accept b v) = field_if (λ (t : NodeState). t.quorums) (
 some_is : (s : Step) (o : Option Step) → o ≡ Some s → o ≡ None → ⊥
 some_is s o e n = let bad : Some s ≡ None = sym e ∙ n in cc
 
-did_acted : (a : Act) (s : Step) (old new : SeatState) → would old a ≡ Some s → core.would old.node (act_of s) ≡ Some s → Did (act_of s) (proposed_by_step s old.proposed) old new
+did_acted : (a : SeatAct) (s : Step) (old new : SeatState) → would old a ≡ Some s → core.would old.node (act_of s) ≡ Some s → Did (act_of s) (proposed_by_step s old.proposed) old new
     → IsStarted (Some s) new → ProposesNoMore a (Some s) new → Acted a old new
 did_acted a s old new e told did way more =
     let node : new.node ≡ after_act old.node (act_of s) = ap (λ (x : SeatState). x.node) did.after in
@@ -82,13 +82,13 @@ did_acted a s old new e told did way more =
       no_more = subst (λ (o : Option Step). ProposesNoMore a o new) (sym e) more;
     }
 
-no_more_none : (a : Act) (s : SeatState) → would s a ≡ None → ProposesNoMore a (would s a) s
+no_more_none : (a : SeatAct) (s : SeatState) → would s a ≡ None → ProposesNoMore a (would s a) s
 no_more_none act.Start s e = λ d. absurd (d e)
 no_more_none (act.Promise j) s e = tt
 no_more_none act.Propose s e = e
 no_more_none (act.Accept j) s e = tt
 
-none_acted : (a : Act) (old new : SeatState) → would old a ≡ None → new ≡ old → Acted a old new
+none_acted : (a : SeatAct) (old new : SeatState) → would old a ≡ None → new ≡ old → Acted a old new
 none_acted a old new e same =
     subst (λ (x : SeatState). Acted a old x) (sym same)
     record {

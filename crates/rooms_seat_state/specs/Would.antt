@@ -8,20 +8,20 @@ use Rattle.paxos_core_node_steps.specs.declared.step.Step.{Step}
 use Rattle.paxos_core_node_steps.specs.declared.step.Step.TheVariants as step
 use Rattle.paxos_core_node_steps.specs.Proposer.{next_proposal}
 use Rattle.paxos_core_node_steps.specs.Would.{next_start, kept_by_step}
-use Rattle.rooms_seat_state.specs.declared.act.Act.{Act}
-use Rattle.rooms_seat_state.specs.declared.act.Act.TheVariants as act
+use Rattle.rooms_seat_state.specs.declared.act.SeatAct.{SeatAct}
+use Rattle.rooms_seat_state.specs.declared.act.SeatAct.TheVariants as act
 use Rattle.rooms_seat_state.specs.Did.{Did}
 use Rattle.rooms_seat_state.specs.SeatState.{SeatState, promise_of, vote_of}
 
 -- what it is asked of is a node of n
-abbrev pub IsAmong : ℕ → Act → Type 0
+abbrev pub IsAmong : ℕ → SeatAct → Type 0
 IsAmong n act.Start = Unit {0}
 IsAmong n (act.Promise j) = j < n
 IsAmong n act.Propose = Unit {0}
 IsAmong n (act.Accept j) = j < n
 
 -- the step that it would take
-abbrev pub would : SeatState → Act → Option Step
+abbrev pub would : SeatState → SeatAct → Option Step
 would s act.Start = option_map step.Start (next_start s.node)
 would s (act.Promise j) = option_map step.Promise (promise_of s j)
 would s act.Propose = option_map (λ (p : ℕ × ℕ). step.Propose p.0 p.1) (next_proposal s.node)
@@ -47,13 +47,13 @@ IsStarted (Some (step.Start b)) s = (s.node.ballot ≡ Some b) × (s.node.kept.p
 IsStarted other s = Unit {0}
 
 -- nothing is proposed any more: it was asked to propose, or has started a ballot, under which no promise is noted yet
-abbrev pub ProposesNoMore : Act → Option Step → SeatState → Type 0
+abbrev pub ProposesNoMore : SeatAct → Option Step → SeatState → Type 0
 ProposesNoMore act.Start told s = told ≢ None → would s act.Propose ≡ None
 ProposesNoMore act.Propose told s = would s act.Propose ≡ None
 ProposesNoMore other told s = Unit {0}
 
 -- the seat was asked: it took the step that it told, and if it told none it is as it was
-pub record Acted (a : Act) (old new : SeatState) : Type 0 where
+pub record Acted (a : SeatAct) (old new : SeatState) : Type 0 where
   pub stepped : IfSome (would old a) (λ s. Did (act_of s) (proposed_by_step s old.proposed) old new)
   pub idle : would old a ≡ None → new ≡ old
   pub kept : new.node.kept ≡ kept_by_step (would old a) old.node.kept

@@ -1,6 +1,6 @@
 /// What a seat is asked to do, that may be a step of the protocol.
 #[derive(Clone, Copy, Debug, PartialEq, Eq)]
-pub enum Act {
+pub enum SeatAct {
     /// To start a ballot.
     Start,
     /// To promise the ballot that node `j` was last seen to have started.

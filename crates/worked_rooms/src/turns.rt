@@ -10,7 +10,7 @@ use paxos_core_world::msg::Msg;
 use paxos_reference::label::Label;
 use paxos_reference::world::World;
 use rooms_seat::WordSeat;
-use rooms_seat_state::act::Act;
+use rooms_seat_state::act::SeatAct;
 use rooms_words::acceptor::AcceptorWord;
 use rooms_words::proposer::ProposerWord;
 
@@ -74,10 +74,10 @@ fn turns(seat: &mut WordSeat, world: &mut World, turn: Turn, j: u8) -> bool {
     match turn {
         Turn::Forget => forgets(seat, world),
         Turn::Offer => offers(seat, world),
-        Turn::Start => acts(seat, world, Act::Start),
-        Turn::Promise => acts(seat, world, Act::Promise(j)),
-        Turn::Propose => acts(seat, world, Act::Propose),
-        Turn::Accept => acts(seat, world, Act::Accept(j)),
+        Turn::Start => acts(seat, world, SeatAct::Start),
+        Turn::Promise => acts(seat, world, SeatAct::Promise(j)),
+        Turn::Propose => acts(seat, world, SeatAct::Propose),
+        Turn::Accept => acts(seat, world, SeatAct::Accept(j)),
         Turn::LookProposer => looks_at_proposer(seat, world, j),
         Turn::LookAcceptor => looks_at_acceptor(seat, world, j),
     }
@@ -103,7 +103,7 @@ fn offers(seat: &mut WordSeat, world: &mut World) -> bool {
 }
 
 /// Asks the seat for the step: what it took is what it told.
-fn acts(seat: &mut WordSeat, world: &mut World, act: Act) -> bool
+fn acts(seat: &mut WordSeat, world: &mut World, act: SeatAct) -> bool
     requires { IsAmong seat.old.node.quorums.nodes act }
 {
     let me = seat.me();
@@ -119,23 +119,23 @@ fn acts(seat: &mut WordSeat, world: &mut World, act: Act) -> bool
 }
 
 /// The step that the seat takes.
-fn took(seat: &mut WordSeat, act: Act) -> Option<Step>
+fn took(seat: &mut WordSeat, act: SeatAct) -> Option<Step>
     requires { IsAmong seat.old.node.quorums.nodes act }
 {
     match act {
-        Act::Start => match seat.start() {
+        SeatAct::Start => match seat.start() {
             Ok(ballot) => Some(Step::Start(ballot)),
             Err(_) => None,
         },
-        Act::Promise(j) => match seat.promise(j) {
+        SeatAct::Promise(j) => match seat.promise(j) {
             Some(ballot) => Some(Step::Promise(ballot)),
             None => None,
         },
-        Act::Propose => match seat.propose() {
+        SeatAct::Propose => match seat.propose() {
             Some((ballot, value)) => Some(Step::Propose(ballot, value)),
             None => None,
         },
-        Act::Accept(j) => match seat.accept(j) {
+        SeatAct::Accept(j) => match seat.accept(j) {
             Some(vote) => Some(Step::Accept(vote.ballot, vote.value)),
             None => None,
         },

@@ -1,5 +1,5 @@
 -- Why `lead` meets its contract.
-use Rattle.rooms_seat_state.specs.declared.act.Act.TheVariants as act
+use Rattle.rooms_seat_state.specs.declared.act.SeatAct.TheVariants as act
 use Rattle.cfarm_settle_nodes.proofs.Going.{stays_acted, stays_through}
 use Rattle.cfarm_settle_nodes.proofs.node.lead.Goals as goal
 

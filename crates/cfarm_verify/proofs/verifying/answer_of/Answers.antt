@@ -1,6 +1,6 @@
 -- Why `answer_of` meets its clauses `answer`, `refused` and `only`.
 use Rattle.std.specs.String.{string_bytes}
-use Rattle.cfarm_verify.specs.Told.{IsTold, IsWant}
+use Rattle.cfarm_verify.specs.Told.{IsUnverified, IsWant}
 use Rattle.cfarm_verify.proofs.Answered.{answer_is, fault_is}
 use Rattle.cfarm_verify.proofs.verifying.answer_of.Goals as goal
 
@@ -11,7 +11,7 @@ returns-clause-answer c =
 
 pub returns-clause-refused : goal.returns-clause-refused
 returns-clause-refused c =
-    fault_is string_bytes (IsTold c.args.text.now c.args.program.now c.args.bundle.now) tt c.args.found c.args.digits c.line_for.result c.line_for.ensures
+    fault_is string_bytes (IsUnverified c.args.text.now c.args.program.now c.args.bundle.now) tt c.args.found c.args.digits c.line_for.result c.line_for.ensures
     c.requires.refused
 
 pub returns-clause-only : goal.returns-clause-only
