@@ -1,4 +1,4 @@
--- Nodes that may be asked hold seats of their rooms, so where they met they rest in each.
+-- Nodes that may be asked hold seats of their rooms, so where they heard of one another they rest in each.
 use Rattle.std.proofs.Common.{◌≡◌, ℕ, ◌<◌, List, Option, Some, ap, ◌∙◌, subst}
 use Rattle.std.specs.Prelude.{slice_get}
 use Rattle.durable_model.specs.declared.disk.Disk as disks
@@ -16,7 +16,7 @@ use Rattle.farm_nodes_restart_records.proofs.Rooms.{function_at, pass_at_room}
 use Rattle.farm_nodes_crash.specs.Left.{IsNode, NodeSeats}
 use Rattle.farm_nodes_crash.specs.Meeting.{AreSeats, FunctionSeats}
 use Rattle.farm_nodes_crash.specs.Stand.{MetNodesRest}
-use Rattle.farm_nodes_crash.proofs.Meeting.{nodes_that_met_rest}
+use Rattle.farm_nodes_crash.proofs.Meeting.{nodes_that_heard_rest}
 
 module _ {D : Type 0} (disk : disks.Ghosts D) (pair : pairs.Ghosts D) (q : Sizes) (digest : List ℕ) (functions : ℕ) where
   -- a seat of a node
@@ -40,4 +40,4 @@ module _ {D : Type 0} (disk : disks.Ghosts D) (pair : pairs.Ghosts D) (q : Sizes
 
 pub met_nodes_rest : {D : Type 0} (disk : disks.Ghosts D) (pair : pairs.Ghosts D) (q : Sizes) → MetNodesRest disk pair q
 met_nodes_rest disk pair q digest functions logs seats halted nodes h twice =
-    nodes_that_met_rest q functions h seats (are_seats disk pair q digest functions logs seats halted nodes) twice
+    nodes_that_heard_rest q functions h seats (are_seats disk pair q digest functions logs seats halted nodes) twice

@@ -1,4 +1,4 @@
--- Nodes that met rest in each room, since their seats there do.
+-- Nodes that heard of one another rest in each room, since their seats there do.
 use Rattle.std.proofs.Common.{◌≡◌, ◌≢◌, ◌⊎◌, ℕ, ◌<◌, List, [], ◌∷◌, length, Option, Some, None, inl, inr, sym, ap, ◌∙◌, subst, arith}
 use Rattle.std.specs.Prelude.{slice_get}
 use Rattle.std.proofs.lemmas.Bool.{cases_eq}
@@ -6,14 +6,16 @@ use Rattle.paxos_core_world.specs.Quorum.{Sizes}
 use Rattle.rooms_seat_state.specs.SeatState.{SeatState}
 use Rattle.rooms_seat.specs.Meeting.{HaveMet}
 use Rattle.rooms_crash.specs.Meetings.{IsSeatOf, Meetings, Meets}
-use Rattle.rooms_crash.proofs.Joining.{meetings_join}
+use Rattle.rooms_crash_heard.proofs.Hearing.{heard_rest}
+use Rattle.rooms_crash_heard.proofs.Neighbours.{neighbours_hear}
+use Rattle.rooms_crash_heard.specs.Heard.{AllHearOf, back, forth, HearsOfAll}
 use Rattle.farm_nodes_turn_passes.specs.Fours.{words_of}
 use Rattle.farm_nodes_turn_passes.specs.Numbers.{room_at}
 use Rattle.farm_nodes_turn_passes.specs.declared.which.Which.{Which}
 use Rattle.farm_nodes_restart_records.proofs.Rooms.{function_at, pass_at_room}
 use Rattle.farm_nodes_open_nodes.proofs.Lists.{found_at}
 use Rattle.farm_nodes_crash.specs.Left.{NodeSeats}
-use Rattle.farm_nodes_crash.specs.Meeting.{AreSeats, FunctionSeats, MeetTwice, NodesMeet, NodesMeetings, NodesThatMetRest}
+use Rattle.farm_nodes_crash.specs.Meeting.{AreSeats, FunctionSeats, HearAll, MeetForthAndBack, NeighboursHearAll, NodesMeet, NodesMeetings, NodesThatHeardRest}
 use Rattle.farm_nodes_crash.specs.Rooms.{RestIn, RoomsRest}
 
 -- the seat of a pass, where there is one
@@ -79,9 +81,9 @@ module _ (q : Sizes) (functions : ℕ) where
     all [] old new h count = λ k. ap (λ (s : NodeSeats). pick d pass (slice_get s f)) (h k)
     all (p ∷ ps) old new h count = (seats_at h.0, all ps old h.0 h.1 count, one p.0 p.1 h.0 new h.2 (counted ps old h.0 h.1 count))
 
-  module _ (h : ℕ) (old : ℕ → NodeSeats) (seats : AreSeats q functions old) (twice : MeetTwice q functions h old) where
+  module _ (h : ℕ) (old : ℕ → NodeSeats) (seats : AreSeats q functions old) (twice : HearAll q functions h old) where
     rest : RoomsRest q functions old
-    rest f pass low = at_one (words_of (found_at (old h) f (omega (arith, low, seats.count h twice.hub))).0 pass)
+    rest f pass low = at_one (words_of (found_at (old h) f (omega (arith, low, seats.count h twice.one))).0 pass)
       where
         at_one : SeatState → RestIn q (room_at f pass) old
         at_one d = record {
@@ -94,13 +96,29 @@ module _ (q : Sizes) (functions : ℕ) where
                 ap (λ (n : ℕ). slice_get (old i) n) (function_at f pass) ∙ s.1,
                 ap (λ (w : Which). words_of s.0 w) (pass_at_room f pass) ∙ sym (ap (λ (o : Option FunctionSeats). pick d pass o) s.1),
               );
-          rest = meetings_join q h twice.first twice.second (seats_at d f pass low old) (seats_at d f pass low twice.between) (seats_at d f pass low twice.new) twice.hub
-              (all d f pass low twice.first old twice.between twice.met seats.count) twice.all
-              (all d f pass low twice.second twice.between twice.new twice.met_again (counted twice.first old twice.between twice.met seats.count)) twice.all_again
+          rest = heard_rest q h twice.first twice.second (seats_at d f pass low old) (seats_at d f pass low twice.between) (seats_at d f pass low twice.new) twice.one
+              (all d f pass low twice.first old twice.between twice.met seats.count) twice.heard
+              (all d f pass low twice.second twice.between twice.new twice.met_again (counted twice.first old twice.between twice.met seats.count)) twice.hear
               (λ i il.
               let s = there d f pass low old seats.count i il in
               subst (λ (o : Option FunctionSeats). IsSeatOf q i (pick d pass o)) (sym s.1) (seats.each i f pass s.0 il s.1));
         }
 
-pub nodes_that_met_rest : (q : Sizes) (functions : ℕ) → NodesThatMetRest q functions
-nodes_that_met_rest q functions h old seats twice = rest q functions h old seats twice
+pub nodes_that_heard_rest : (q : Sizes) (functions : ℕ) → NodesThatHeardRest q functions
+nodes_that_heard_rest q functions h old seats twice = rest q functions h old seats twice
+
+pub neighbours_hear_all : (q : Sizes) (functions : ℕ) → NeighboursHearAll q functions
+neighbours_hear_all q functions old new met = (
+  met.last,
+  record {
+    one = omega (arith, met.nodes);
+    first = forth met.last;
+    second = back met.last;
+    between = met.between;
+    new = new;
+    met = met.met;
+    heard = subst (λ (n : ℕ). HearsOfAll (forth met.last) n met.last) (sym met.nodes) (neighbours_hear met.last).0;
+    met_again = met.met_again;
+    hear = subst (λ (n : ℕ). AllHearOf (back met.last) n met.last) (sym met.nodes) (neighbours_hear met.last).1;
+  },
+)

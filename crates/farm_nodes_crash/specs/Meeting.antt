@@ -1,8 +1,9 @@
 -- Meetings of the nodes of a farm, one after another, with nothing between them but meetings.
-use Rattle.std.specs.Prelude.{◌≡◌, ◌≢◌, ℕ, ◌<◌, List, [], ◌∷◌, length, Some, slice_get}
+use Rattle.std.specs.Prelude.{◌≡◌, ◌≢◌, ℕ, suc, ◌<◌, List, [], ◌∷◌, length, Some, slice_get}
 use Rattle.paxos_core_world.specs.Quorum.{Sizes}
 use Rattle.rooms_seat.specs.Meeting.{HaveMet}
-use Rattle.rooms_crash.specs.Meetings.{AllMeet, IsSeatOf}
+use Rattle.rooms_crash.specs.Meetings.{IsSeatOf}
+use Rattle.rooms_crash_heard.specs.Heard.{AllHearOf, back, forth, HearsOfAll}
 use Rattle.farm_nodes_turn_passes.specs.Fours.{words_of, Four}
 use Rattle.farm_nodes_turn_passes.specs.Offers.{ConstantsOffer, ExpressionsOffer, AllocationOffer, OrderOffer}
 use Rattle.farm_nodes_turn_passes.specs.declared.which.Which.{Which}
@@ -36,20 +37,32 @@ module _ (q : Sizes) (functions : ℕ) where
     pub count : (i : ℕ) → i < q.nodes → length (seats i) ≡ functions
     pub each : (i f : ℕ) (pass : Which) (s : FunctionSeats) → i < q.nodes → slice_get (seats i) f ≡ Some s → IsSeatOf q i (words_of s pass)
 
-  -- each other node meets node h, and meets it again, with nothing but meetings between
-  pub record MeetTwice (h : ℕ) (old : ℕ → NodeSeats) : Type 0 where
-    pub hub : h < q.nodes
+  -- node h hears of all, and all hear of it again, with nothing but meetings between
+  pub record HearAll (h : ℕ) (old : ℕ → NodeSeats) : Type 0 where
+    pub one : h < q.nodes
     pub first : List (ℕ × ℕ)
     pub second : List (ℕ × ℕ)
     pub between : ℕ → NodeSeats
     pub new : ℕ → NodeSeats
     pub met : NodesMeetings first old between
-    pub all : AllMeet first q.nodes h
+    pub heard : HearsOfAll first q.nodes h
     pub met_again : NodesMeetings second between new
-    pub all_again : AllMeet second q.nodes h
+    pub hear : AllHearOf second q.nodes h
 
-  -- ---- the promise
+  -- each two neighbours meet, from the first node to the last, and again on the way back
+  pub record MeetForthAndBack (old new : ℕ → NodeSeats) : Type 0 where
+    pub last : ℕ
+    pub nodes : q.nodes ≡ suc last
+    pub between : ℕ → NodeSeats
+    pub met : NodesMeetings (forth last) old between
+    pub met_again : NodesMeetings (back last) between new
 
-  -- Where each node meets node h, and meets it again, all rest in each room as they were before.
-  abbrev pub NodesThatMetRest : Type 0
-  NodesThatMetRest = (h : ℕ) (old : ℕ → NodeSeats) → AreSeats old → MeetTwice h old → RoomsRest q functions old
+  -- ---- the promises
+
+  -- Where node h hears of all, and all hear of it again, all rest in each room as they were before.
+  abbrev pub NodesThatHeardRest : Type 0
+  NodesThatHeardRest = (h : ℕ) (old : ℕ → NodeSeats) → AreSeats old → HearAll h old → RoomsRest q functions old
+
+  -- so they do where neighbours meet forth and back: the last node hears of all
+  abbrev pub NeighboursHearAll : Type 0
+  NeighboursHearAll = (old new : ℕ → NodeSeats) → MeetForthAndBack old new → (h : ℕ) × HearAll h old

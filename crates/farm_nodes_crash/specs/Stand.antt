@@ -17,7 +17,7 @@ use Rattle.farm_nodes_open_stored.specs.Read.{AreKept}
 use Rattle.farm_nodes_open_nodes.specs.FarmNodesOpenSeatsRefused.{HasBadRecord, IsRoomUnopened}
 use Rattle.farm_nodes_open_nodes.specs.Refused.{IsRefusedJournal, OfJournals}
 use Rattle.farm_nodes_crash.specs.Left.{AreLeftOf, IsNode, NodeSeats}
-use Rattle.farm_nodes_crash.specs.Meeting.{MeetTwice}
+use Rattle.farm_nodes_crash.specs.Meeting.{HearAll}
 use Rattle.farm_nodes_crash.specs.Rooms.{RoomsRest}
 
 module _ {D : Type 0} (disk : disks.Ghosts D) (pair : pairs.Ghosts D) (q : Sizes) where
@@ -64,12 +64,12 @@ module _ {D : Type 0} (disk : disks.Ghosts D) (pair : pairs.Ghosts D) (q : Sizes
       → AreLeftOf disk pair q digest functions logs seats halted given → RoomsRest q functions seats
       → RoomsStand digest functions given
 
-  -- they rest where each has met one of them, and has met it again, whatever they did before
+  -- they rest where one of them hears of all in meetings, and all of it again, whatever they did before
   abbrev pub MetNodesRest : Type 0
   MetNodesRest =
       (digest : List ℕ) (functions : ℕ) (logs : ℕ → Log D) (seats : ℕ → NodeSeats) (halted : ℕ → Option Halted)
       → ((i : ℕ) → i < q.nodes → IsNode disk pair q digest functions i (logs i) (seats i) (halted i))
-      → (h : ℕ) → MeetTwice q functions h seats → RoomsRest q functions seats
+      → (h : ℕ) → HearAll q functions h seats → RoomsRest q functions seats
 
   -- and the rooms stand right after the farm has opened, before a node takes a turn
   abbrev pub OpenedRoomsStand : Type 0

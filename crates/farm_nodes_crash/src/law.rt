@@ -1,6 +1,6 @@
 ghost use Rattle.std.specs.Prelude.{ℕ};
 ghost use Rattle.farm_nodes_crash.specs.Again.{LearnedAgain};
-ghost use Rattle.farm_nodes_crash.specs.Meeting.{NodesThatMetRest};
+ghost use Rattle.farm_nodes_crash.specs.Meeting.{NeighboursHearAll, NodesThatHeardRest};
 ghost use Rattle.farm_nodes_crash.specs.Stand.{LeftJournalsStand, LeftRoomsStand, MetNodesRest, OpenedRoomsStand};
 
 use durable_pair::Pair;
@@ -14,7 +14,8 @@ pub fn left_by_all<P: Pair>(quorums: Quorums)
     // nor with 510, where the nodes rest in each room,
     ensures rooms { LeftRoomsStand P.Disk P.Pair.own quorums }
 
-    // as they do where each has met one of them, and has met it again: behind any turns on threads that have come back, failures and restarts;
+    // as they do where one has heard of all in meetings, and all of it again: behind any turns on threads that have come back, failures and
+    // restarts;
     ensures met { MetNodesRest P.Disk P.Pair.own quorums }
 
     // nor right after it has opened.
@@ -26,10 +27,14 @@ pub fn left_by_all<P: Pair>(quorums: Quorums)
     let _count = quorums.nodes();
 }
 
-/// What holds of nodes of a farm each of which has met one of them, and has met it again; it does nothing.
+/// What holds of nodes of a farm that have heard of one another in meetings; it does nothing.
 pub fn rest_of_met(quorums: Quorums)
-    // They rest in each room as they were before the first of these meetings, which leave their journals as they are.
-    ensures { (functions : ℕ) → NodesThatMetRest quorums functions }
+    // Where one hears of all, and all of it again, they rest in each room as they were before the first of these meetings, which leave their
+    // journals as they are.
+    ensures rest { (functions : ℕ) → NodesThatHeardRest quorums functions }
+
+    // So it is where each two neighbours meet, from the first node to the last, and again on the way back.
+    ensures neighbours { (functions : ℕ) → NeighboursHearAll quorums functions }
 {
     let _count = quorums.nodes();
 }
