@@ -1,12 +1,14 @@
 //! `cfarm`: a farm of C compiler nodes in one process. `main` hands the words of the command line, the files, the hall of the rooms
-//! and the standard streams to [`cfarm_program::run`].
+//! and the standard streams to [`cfarm_program::run`]. Streams that are closed are made sure of before.
 #![tactic(auto)]
 
 ghost use Rattle.std.specs.Prelude.{◌≡◌, ◌≤◌};
 
 mod screen;
+mod streams;
 
 use crate::screen::Screen;
+use crate::streams::Streams;
 use cfarm_files::HostFiles;
 use cfarm_output::{ErrorLines, ErrorWriter, Paced};
 use cfarm_program::{Host, OwnWords, run, tell_no_text};
@@ -79,5 +81,6 @@ fn run_here<R: Threads + Wait + Sync>(rt: &HostRuntime, threads: &R) -> u8
 }
 
 fn main(rt: HostRuntime) -> ExitCode {
+    let _streams = Streams::made_sure(&rt);
     ExitCode::from(run_here(&rt, &rt))
 }

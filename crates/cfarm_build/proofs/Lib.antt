@@ -1,6 +1,4 @@
 mod Made
-mod Unbuilt
-mod Unmet
 mod Carrying
 mod Leaving
 mod Putting

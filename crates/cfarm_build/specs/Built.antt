@@ -1,5 +1,6 @@
--- What a build makes.
-use Rattle.std.specs.Prelude.{ℕ, List}
+-- What a build makes, and the nodes that it gives back.
+use Rattle.std.specs.Prelude.{◌≡◌, ℕ, List, None, map}
+use Rattle.std.specs.List.{AllByRecursion}
 use Rattle.durable_model.specs.declared.disk.Disk as disks
 use Rattle.durable_pair.specs.declared.pair.Pair as pairs
 use Rattle.rooms_hall.specs.declared.hall.Naming as naming
@@ -7,9 +8,31 @@ use Rattle.farm_nodes_source.specs.declared.source.Source.{Source}
 use Rattle.paxos_core_world.specs.Quorum.{Sizes}
 use Rattle.cfarm_build_linking.specs.Built.{IsBuiltBy}
 pub use Rattle.cfarm_build_turns.specs.Built.{Built}
-use Rattle.cfarm_build_turns.specs.Nodes.{AfterMeeting}
+use Rattle.cfarm_build_turns.specs.Node.{Node, node}
+use Rattle.cfarm_build_turns.specs.Nodes.{AreBack, failed_of}
+use Rattle.cfarm_build_turns.specs.FarmNode.{FarmNode}
+use Rattle.cfarm_build_turns.specs.Resting.{Resting}
+use Rattle.cfarm_build_turns.specs.Voted.{AreVotedFor}
+use Rattle.cfarm_build.specs.Back.{AreNodes}
+use Rattle.cfarm_build.specs.declared.given_back.GivenBack.{GivenBack}
 
--- The source is compiled by nodes over these disks, with quorums of these sizes, none of which failed. Each two neighbours met, and all
--- functions were counted: what every node links is one program, which keeps the meaning of the C program, and the bytes are its text.
-abbrev pub IsBuilt : {D : Type 0} → disks.Ghosts D → pairs.Ghosts D → {H : Type 0} → naming.Ghosts H → Sizes → ℕ → Source → List D → Built → Type 0
-IsBuilt disk pair {H} h q seed source given built = AfterMeeting disk pair {H = H} {h = h} q seed source given (λ nodes. IsBuiltBy source nodes built)
+-- what is said of nodes: their journals, their seats, and what stopped them
+abbrev pub nodes_seen : {D O H : Type 0} {h : naming.Ghosts H} → List (FarmNode D O H h) → List (Node D H h)
+nodes_seen nodes = map (λ n. node n.log n.seats.items n.halted) nodes
+
+-- The source is compiled by these nodes, which opened over the pairs of disks, with quorums of these sizes. None of them failed. Each two neighbours
+-- met, and all functions were counted: what every node links is one program, which keeps the meaning of the C program, and the bytes are its
+-- text. What is linked was voted for: in each room of each node by an accept quorum. Each node's disk holds its journal.
+pub record IsBuilt {D : Type 0} (disk : disks.Ghosts D) (pair : pairs.Ghosts D) (q : Sizes) (seed turns : ℕ) (source : Source) (given : List D)
+    {H : Type 0} {h : naming.Ghosts H} (nodes : List (Resting D H h)) (built : Built) : Type 0 where
+  pub begun : List (Resting D H h)
+  pub ran : List (Resting D H h)
+  pub back : AreBack disk pair q source given seed turns begun ran nodes
+  pub going : failed_of ran ≡ None
+  pub voted : AllByRecursion (λ n. AreVotedFor q n.seats.items) nodes
+  pub makes : IsBuiltBy source (nodes_seen nodes) built
+
+-- nodes are given back, and this is built by them
+abbrev pub IsBuiltBack : {D : Type 0} → disks.Ghosts D → pairs.Ghosts D → Sizes → (seed turns : ℕ) → Source → List D
+    → {H : Type 0} {h : naming.Ghosts H} → GivenBack D H h → Built → Type 0
+IsBuiltBack disk pair q seed turns source given left built = AreNodes left (λ nodes. IsBuilt disk pair q seed turns source given nodes built)

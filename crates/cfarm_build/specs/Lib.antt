@@ -1,10 +1,11 @@
+pub mod Back
 pub mod Built
 pub mod Refused
 pub mod Carried
 pub mod Compiled
 pub mod Done
 pub mod Farmed
-pub mod Left
+pub mod Gone
 pub mod Put
 pub use Rattle.cfarm_build_folder.specs.Answers
 pub use Rattle.cfarm_build_folder.specs.Changed

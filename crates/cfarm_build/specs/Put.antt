@@ -7,7 +7,7 @@ use Rattle.cfarm_build_linking.specs.Carried.{bundle_of}
 use Rattle.cfarm_files.specs.Placing.{Placed}
 use Rattle.cfarm_options.specs.declared.options.BuildOptions.{BuildOptions}
 use Rattle.cfarm_output.specs.Begun.{IsBegun}
-use Rattle.cfarm_build_folder.specs.Putting.{PlacesBoth, PutsNoProgram}
+use Rattle.cfarm_build_folder.specs.Putting.{PlacesBoth, PlacesNotBoth}
 use Rattle.cfarm_build_folder.specs.declared.error.BuildingError.{BuildingError}
 use Rattle.cfarm_build_folder.specs.declared.error.BuildingError.TheVariants.{Build, File, Write}
 
@@ -20,9 +20,9 @@ module _ (options : BuildOptions) (built : Built) (placed now_placed : Option (L
   abbrev pub IsPut : Type 0
   IsPut = PlacesBoth options (bundle_of built) placed now_placed built.program.items × Appends before after (report_line built)
 
-  -- a file was refused: no program was put, and nothing printed
+  -- a file was refused, at whose path the old one stands or the new one, whole; nothing was printed
   abbrev pub HasNoFile : BuildingError → Type 0
-  HasNoFile fault = PutsNoProgram options (bundle_of built) placed now_placed fault × (after ≡ before)
+  HasNoFile fault = PlacesNotBoth options (bundle_of built) placed now_placed built.program.items fault × (after ≡ before)
 
   -- In this order: the files, the output, of which a beginning may have been printed.
   abbrev pub IsUnput : BuildingError → Type 0

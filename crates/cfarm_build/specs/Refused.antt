@@ -1,5 +1,5 @@
--- Why nothing is built. That memory or a thread was refused says nothing.
-use Rattle.std.specs.Prelude.{◌≡◌, ◌⊎◌, ℕ, List, Some}
+-- Why nothing is built, and what is given back then.
+use Rattle.std.specs.Prelude.{◌≡◌, ◌⊎◌, ℕ, List, None, Some}
 use Rattle.durable_model.specs.declared.disk.Disk as disks
 use Rattle.durable_pair.specs.declared.pair.Pair as pairs
 use Rattle.rooms_hall.specs.declared.hall.Naming as naming
@@ -9,28 +9,48 @@ use Rattle.cfarm_build_turns.specs.Fault.{Fault}
 use Rattle.cfarm_build_folder.specs.Refused.{AreRefusedOver}
 use Rattle.cfarm_build_folder.specs.BuildError.{BuildError}
 use Rattle.cfarm_build_folder.specs.BuildError.TheVariants.{NoMemory, NoThread, Source as TextFault, Disks, Failed, Undecided, Unlinked, Names}
-use Rattle.cfarm_build_turns.specs.Node.{Node}
 use Rattle.cfarm_build_linking.specs.Refused.{IsRefusedBy}
-use Rattle.cfarm_build_turns.specs.Nodes.{AfterMeeting, AreMissed, HaveRun, failed_of}
+use Rattle.cfarm_build_turns.specs.Nodes.{AreBack, AreMissed, HasStopped, failed_of}
+use Rattle.cfarm_build_turns.specs.Resting.{Resting}
+use Rattle.cfarm_build.specs.Back.{AreNodes, ArePairs}
+use Rattle.cfarm_build.specs.Built.{nodes_seen}
+use Rattle.cfarm_build.specs.declared.given_back.GivenBack.{GivenBack}
 
-module _ {D : Type 0} (disk : disks.Ghosts D) (pair : pairs.Ghosts D) {H : Type 0} (h : naming.Ghosts H) (q : Sizes) (seed : ℕ) (source : Source) (given : List D) where
-  -- the nodes took their turns, and the lowest one that failed is this
-  pub record HasFailed (number : ℕ) (fault : Fault) : Type 0 where
-    pub nodes : List (Node D H h)
-    pub run : HaveRun disk pair q seed source given nodes
+module _ {D : Type 0} (disk : disks.Ghosts D) (pair : pairs.Ghosts D) (q : Sizes) (seed turns : ℕ) (source : Source) (given : List D)
+    {H : Type 0} {h : naming.Ghosts H} where
+  -- the farm's nodes, whose disks hold their journals
+  pub record ComeBack (nodes : List (Resting D H h)) : Type 0 where
+    pub begun : List (Resting D H h)
+    pub ran : List (Resting D H h)
+    pub back : AreBack disk pair q source given seed turns begun ran nodes
+
+  -- the lowest of them that failed is this, and there is a cause
+  pub record HasFailed (number : ℕ) (fault : Fault) (nodes : List (Resting D H h)) : Type 0 where
+    pub begun : List (Resting D H h)
+    pub back : AreBack disk pair q source given seed turns begun nodes nodes
     pub failed : failed_of nodes ≡ Some (number, fault)
+    pub stopped : HasStopped disk pair q source given begun nodes number fault
+
+  -- none failed, they met, and so it is of them
+  pub record HaveMetIn (Is : List (Resting D H h) → Type 0) (nodes : List (Resting D H h)) : Type 0 where
+    pub begun : List (Resting D H h)
+    pub ran : List (Resting D H h)
+    pub back : AreBack disk pair q source given seed turns begun ran nodes
+    pub going : failed_of ran ≡ None
+    pub is : Is nodes
 
   -- two neighbours did not count all functions, or a node does not link all
-  abbrev pub IsWanting : List (Node D H h) → Type 0
-  IsWanting nodes = AreMissed (λ n. n.seats) nodes ⊎ IsRefusedBy source nodes Undecided
+  abbrev pub AreWanting : List (Resting D H h) → Type 0
+  AreWanting nodes = AreMissed (λ n. n.seats.items) nodes ⊎ IsRefusedBy source (nodes_seen nodes) Undecided
 
-  -- In this order: the disks, the lowest node that failed, what is not linked. The names are the program's.
-  abbrev pub IsUnbuilt : BuildError → Type 0
-  IsUnbuilt NoMemory = Unit {0}
-  IsUnbuilt NoThread = Unit {0}
-  IsUnbuilt (TextFault fault) = ⊥
-  IsUnbuilt (Disks fault) = (back : List D) × AreRefusedOver disk pair q source given back fault
-  IsUnbuilt (Failed number fault) = HasFailed number fault
-  IsUnbuilt Undecided = AfterMeeting disk pair {H = H} {h = h} q seed source given (λ nodes. IsWanting nodes)
-  IsUnbuilt (Unlinked fault function) = AfterMeeting disk pair {H = H} {h = h} q seed source given (λ nodes. IsRefusedBy source nodes (Unlinked fault function))
-  IsUnbuilt Names = ⊥
+  -- In this order: the disks, the lowest node that failed, what is not linked. The names are the program's. That memory or a thread was refused says
+  -- nothing but what is given back: the pairs as they were given, or the nodes.
+  abbrev pub IsUnbuilt : GivenBack D H h → BuildError → Type 0
+  IsUnbuilt left NoMemory = ArePairs left (λ back. back ≡ given) ⊎ AreNodes left ComeBack
+  IsUnbuilt left NoThread = AreNodes left ComeBack
+  IsUnbuilt left (TextFault fault) = ⊥
+  IsUnbuilt left (Disks fault) = ArePairs left (λ back. AreRefusedOver disk pair q source given back fault)
+  IsUnbuilt left (Failed number fault) = AreNodes left (HasFailed number fault)
+  IsUnbuilt left Undecided = AreNodes left (HaveMetIn AreWanting)
+  IsUnbuilt left (Unlinked fault function) = AreNodes left (HaveMetIn (λ nodes. IsRefusedBy source (nodes_seen nodes) (Unlinked fault function)))
+  IsUnbuilt left Names = ⊥

@@ -1,17 +1,21 @@
-ghost use Rattle.std.specs.Prelude.{◌≡◌, ◌≤◌, is_some, length, IfOk, IfErr};
+ghost use Rattle.std.specs.Prelude.{◌≡◌, ◌≤◌, ◌<◌, is_some, length, IfOk, IfErr};
 ghost use Rattle.std.specs.Arc.{arc_value};
+ghost use Rattle.std.specs.List.{AllByRecursion};
 ghost use Rattle.c_checker_rules.specs.Checked.{program_tree};
 ghost use Rattle.cminor_lowering.specs.Programs.{low};
 ghost use Rattle.cminor_program_ranges.specs.Names.{HaveNames};
 ghost use Rattle.rtlgen_definition.specs.Gen.{gen};
-ghost use Rattle.cfarm_build.specs.Built.{IsBuilt};
+ghost use Rattle.cfarm_build.specs.Built.{IsBuiltBack};
+ghost use Rattle.cfarm_build.specs.Gone.{HaveGone};
 ghost use Rattle.cfarm_build.specs.Refused.{IsUnbuilt};
+ghost use Rattle.cfarm_build_turns.specs.Asked.{MayBeAsked};
 
+use crate::given_back::GivenBack;
 use crate::host::Host;
 use cfarm_build_folder::{BuildError, Farm};
 use cfarm_build_linking::built_by;
 use cfarm_build_offers::Oracles;
-use cfarm_build_turns::{Built, met_all, run_rounds};
+use cfarm_build_turns::{Built, FarmNode, all_at_rest, met_all, run_rounds};
 use cfarm_options::Meter;
 use durable_pair::Pair;
 use farm_nodes_source::Source;
@@ -20,9 +24,47 @@ use rooms_hall::Naming;
 use std::sync::Wait;
 use std::thread::Threads;
 
+/// The nodes of a farm that opened take so many turns at most, and each two neighbours meet. What is linked then, if it is, and the nodes.
+fn gone<
+    D: Pair + Drop + Send,
+    O: Oracles + Drop + Send,
+    H: Naming + Send,
+    R: Threads + Wait + Sync,
+    M: Meter,
+>(
+    host: &Host<'_, H, R>,
+    source: &Source,
+    nodes: Vec<FarmNode<D, O, H>>,
+    turns: u64,
+    bundles: bool,
+    meter: &mut M,
+) -> (Result<Built, BuildError>, Vec<FarmNode<D, O, H>>)
+    requires some { 0 < length nodes.items }
+    requires fit { AllByRecursion (MayBeAsked D.Disk) nodes.items }
+    requires translated { arc_value source.now.translated ≡ gen (low (program_tree source.now.program)) }
+    requires names { HaveNames (program_tree source.now.program) }
+    requires count { length (arc_value source.now.translated).functions ≤ 64 }
+    requires program { AllByRecursion (λ n. arc_value n.program ≡ arc_value source.now.translated) nodes.items }
+    ensures gone { HaveGone D.Disk turns source.now nodes.items result.1.items result.0 }
+    ensures asked { IfOk result.0 (λ built. is_some built.bundle ≡ bundles) }
+{
+    let (rt, alloc) = (host.threads, host.alloc);
+    let nodes = match run_rounds(rt, alloc, nodes, turns, meter) {
+        Ok(nodes) => nodes,
+        Err((nodes, fault)) => return (Err(fault), nodes),
+    };
+    let nodes = match met_all(nodes) {
+        Ok(nodes) => nodes,
+        Err((nodes, fault)) => return (Err(fault), nodes),
+    };
+    let made = built_by(alloc, source, &nodes, bundles);
+    (made, nodes)
+}
+
 /// Compiles a C text that was made ready by a farm with these quorums and a node for each pair of disks, a thread for each node, each of which
 /// takes so many turns at most. Then each two neighbours meet, and the program is linked, with its bundle where that is asked for. Between
-/// rounds of turns it is told how far they are.
+/// rounds of turns it is told how far they are. Whatever it comes to, the disks are given back: with the nodes, or the pairs where the farm did
+/// not open.
 pub fn build<
     D: Pair + Drop + Send,
     O: Oracles + Drop + Send,
@@ -39,7 +81,7 @@ pub fn build<
     quorums: Quorums,
     bundles: bool,
     meter: &mut M,
-) -> Result<Built, BuildError>
+) -> (Result<Built, BuildError>, GivenBack<D, H>)
     requires size { length disks.items ≡ quorums.nodes }
     requires oracles { length oracles.items ≡ length disks.items }
 
@@ -48,32 +90,30 @@ pub fn build<
     requires names { HaveNames (program_tree source.program) }
     requires count { length (arc_value source.translated).functions ≤ 64 }
 
-    // Each two neighbours met, and all functions were counted. So every node has learned the same offers, and what each would link is one
-    // program: the bytes are its text, it keeps the meaning of the C program, and the report tells the offers.
-    ensures built { IfOk result (IsBuilt D.Disk D.Pair.own H.Naming quorums seed source disks.items) }
+    // Each two neighbours of the nodes that are given back met, and all functions were counted. So every node has learned the same offers, and
+    // what each would link is one program: the bytes are its text, it keeps the meaning of the C program, and the report tells the offers. Each
+    // node's disk holds its journal.
+    ensures built { IfOk result.0 (IsBuiltBack D.Disk D.Pair.own quorums seed turns source disks.items result.1) }
 
     // There is a bundle where it is asked for: that of the offers of which the program is linked.
-    ensures asked { IfOk result (λ built. is_some built.bundle ≡ bundles) }
+    ensures asked { IfOk result.0 (λ built. is_some built.bundle ≡ bundles) }
 
-    // The disks come first, then the lowest node that failed, then what is not counted, or not linked.
-    ensures refused { IfErr result (IsUnbuilt D.Disk D.Pair.own H.Naming quorums seed source disks.items) }
+    // The disks come first, then the lowest node that failed, for which there is a cause, then what is not counted, or not linked. Behind the
+    // opening the nodes are given back, and each one's disk holds its journal.
+    ensures refused { IfErr result.0 (IsUnbuilt D.Disk D.Pair.own quorums seed turns source disks.items result.1) }
 {
     let (rt, alloc, hall) = (host.threads, host.alloc, host.hall);
     // There is one node at least.
     let _nodes = quorums.nodes();
+    let Ok(spare) = Vec::with_capacity(alloc, disks.len()) else {
+        return (Err(BuildError::NoMemory), GivenBack::Pairs(disks));
+    };
     let farm = match Farm::over(rt, alloc, hall, source, disks, oracles, seed, quorums) {
         Ok(farm) => farm,
-        Err((_disks, fault)) => return Err(BuildError::Disks(fault)),
+        Err((disks, fault)) => return (Err(BuildError::Disks(fault)), GivenBack::Pairs(disks)),
     };
     meter.opened();
     let Farm { source, nodes } = farm;
-    let nodes = match run_rounds(rt, alloc, nodes, turns, meter) {
-        Ok(nodes) => nodes,
-        Err(fault) => return Err(fault),
-    };
-    let nodes = match met_all(nodes) {
-        Ok(nodes) => nodes,
-        Err(fault) => return Err(fault),
-    };
-    built_by(alloc, &source, &nodes, bundles)
+    let (made, nodes) = gone(host, &source, nodes, turns, bundles, meter);
+    (made, GivenBack::Nodes(all_at_rest(nodes, spare)))
 }

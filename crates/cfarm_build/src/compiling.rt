@@ -7,6 +7,7 @@ ghost use Rattle.cfarm_build.specs.Farmed.{FarmCompiles, FarmCompilesNot};
 
 use crate::building::build;
 use crate::farm::Farm;
+use crate::given_back::GivenBack;
 use crate::host::Host;
 use cfarm_build_folder::{
     BuildError, BuildingError, Optimisers, Optimising, locked, old_among, open_disks, optimisers_of,
@@ -62,7 +63,7 @@ fn oracles_of<'a>(
 }
 
 /// What is built of a text by a farm with the quorums that are asked for over the journals of the folder, and the folder's lock. The text
-/// comes first, then the lock, then the offers that were made outside, then the journals, then the farm.
+/// comes first, then the lock, then the offers that were made outside, then the journals, then the farm. The disks are given back.
 fn compiled_by<H: Naming + Send, R: Threads + Wait + Sync, F: Files, M: Meter>(
     host: &Host<'_, H, R>,
     text: &[u8],
@@ -71,21 +72,28 @@ fn compiled_by<H: Naming + Send, R: Threads + Wait + Sync, F: Files, M: Meter>(
     files: &mut F,
     meter: &mut M,
     given: &mut Vec<NodeOffers>,
-) -> Result<(Built, F::Lock), BuildingError>
-    requires { quorums ≡ quorums_of options }
-    ensures built { IfOk result (λ r. FarmCompiles ⟦<F as Farm<H>>⟧ options.entry text.now files r.0) }
-    ensures asked { IfOk result (λ r. is_some r.0.bundle ≡ is_some options.entry.bundle) }
-    ensures locked { IfOk result (λ r. CoversFolder (F.covers r.1) options.entry.folder.now) }
-    ensures refused { IfErr result (FarmCompilesNot ⟦<F as Farm<H>>⟧ options.entry text.now files) }
+) -> (
+    Result<(Built, F::Lock), BuildingError>,
+    GivenBack<F::Disk, H>,
+)
+    requires leave { F.may_lock files.now }
+    requires quorums { quorums ≡ quorums_of options }
+    ensures built { IfOk result.0 (λ r. FarmCompiles ⟦<F as Farm<H>>⟧ options.entry text.now files result.1 r.0) }
+    ensures asked { IfOk result.0 (λ r. is_some r.0.bundle ≡ is_some options.entry.bundle) }
+    ensures locked { IfOk result.0 (λ r. CoversFolder (F.covers r.1) options.entry.folder.now) }
+    ensures refused { IfErr result.0 (FarmCompilesNot ⟦<F as Farm<H>>⟧ options.entry text.now files result.1) }
 {
     let alloc = host.alloc;
     let source = match prepare(alloc, text) {
         Ok(source) => source,
-        Err(fault) => return Err(BuildingError::Build(BuildError::Source(fault))),
+        Err(fault) => return (
+            Err(BuildingError::Build(BuildError::Source(fault))),
+            GivenBack::Nothing,
+        ),
     };
     let lock = match locked(alloc, options.folder, files) {
         Ok(lock) => lock,
-        Err(fault) => return Err(fault),
+        Err(fault) => return (Err(fault), GivenBack::Nothing),
     };
     match given_in(
         alloc,
@@ -94,24 +102,31 @@ fn compiled_by<H: Naming + Send, R: Threads + Wait + Sync, F: Files, M: Meter>(
         source.translated.functions.as_slice(),
     ) {
         Ok(found) => *given = found,
-        Err(NoMemory) => return Err(BuildingError::Build(BuildError::NoMemory)),
+        Err(NoMemory) => return (
+            Err(BuildingError::Build(BuildError::NoMemory)),
+            GivenBack::Nothing,
+        ),
     }
     let disks = match open_disks(alloc, options, files, &lock) {
         Ok(disks) => disks,
-        Err(fault) => return Err(fault),
+        Err(fault) => return (Err(fault), GivenBack::Nothing),
     };
     meter.found(old_among(&*files, &disks), disks.len());
     let nodes = usize::from(quorums.nodes());
     let Ok(oracles) = oracles_of(alloc, options, nodes, given.as_mut_slice()) else {
-        return Err(BuildingError::Build(BuildError::NoMemory));
+        return (
+            Err(BuildingError::Build(BuildError::NoMemory)),
+            GivenBack::Pairs(disks),
+        );
     };
     let (turns, seed) = (u64::from(options.turns), options.seed);
     let bundles = options.bundle.is_some();
-    match build(
+    let (made, back) = build(
         host, source, disks, oracles, turns, seed, quorums, bundles, meter,
-    ) {
-        Ok(built) => Ok((built, lock)),
-        Err(fault) => Err(BuildingError::Build(fault)),
+    );
+    match made {
+        Ok(built) => (Ok((built, lock)), back),
+        Err(fault) => (Err(BuildingError::Build(fault)), back),
     }
 }
 
@@ -123,12 +138,16 @@ pub(crate) fn compiled<H: Naming + Send, R: Threads + Wait + Sync, F: Files, M: 
     quorums: Quorums,
     files: &mut F,
     meter: &mut M,
-) -> Result<(Built, F::Lock), BuildingError>
-    requires { quorums ≡ quorums_of options }
-    ensures built { IfOk result (λ r. FarmCompiles ⟦<F as Farm<H>>⟧ options.entry text.now files r.0) }
-    ensures asked { IfOk result (λ r. is_some r.0.bundle ≡ is_some options.entry.bundle) }
-    ensures locked { IfOk result (λ r. CoversFolder (F.covers r.1) options.entry.folder.now) }
-    ensures refused { IfErr result (FarmCompilesNot ⟦<F as Farm<H>>⟧ options.entry text.now files) }
+) -> (
+    Result<(Built, F::Lock), BuildingError>,
+    GivenBack<F::Disk, H>,
+)
+    requires leave { F.may_lock files.now }
+    requires quorums { quorums ≡ quorums_of options }
+    ensures built { IfOk result.0 (λ r. FarmCompiles ⟦<F as Farm<H>>⟧ options.entry text.now files result.1 r.0) }
+    ensures asked { IfOk result.0 (λ r. is_some r.0.bundle ≡ is_some options.entry.bundle) }
+    ensures locked { IfOk result.0 (λ r. CoversFolder (F.covers r.1) options.entry.folder.now) }
+    ensures refused { IfErr result.0 (FarmCompilesNot ⟦<F as Farm<H>>⟧ options.entry text.now files result.1) }
 {
     let mut given = Vec::new(host.alloc);
     let made = compiled_by(host, text, options, quorums, files, meter, &mut given);

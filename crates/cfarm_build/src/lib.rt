@@ -6,11 +6,13 @@
 mod building;
 mod compiling;
 mod farm;
+mod given_back;
 mod host;
 mod text_building;
 
 pub use building::build;
 pub use cfarm_build_folder::{BuildError, of_build};
 pub use farm::Farm;
+pub use given_back::GivenBack;
 pub use host::Host;
 pub use text_building::build_text;

@@ -9,6 +9,7 @@ ghost use Rattle.cfarm_build.specs.Farmed.{FarmBuilds, FarmBuildsNot};
 
 use crate::compiling::compiled;
 use crate::farm::Farm;
+use crate::given_back::GivenBack;
 use crate::host::Host;
 use cfarm_build_folder::{BuildError, BuildingError, place_both};
 use cfarm_build_turns::Built;
@@ -65,9 +66,9 @@ fn put_built<F: Files, W: Write>(
     }
 }
 
-/// Builds a C text in the folder by a farm with the quorums that are asked for. The folder's lock is held from the text's acceptance on to
-/// the end: the bundle is put in its file, where one is asked for, then the linked program in its own, and then the report is printed on one
-/// line and flushed. What is shown while the farm runs is taken away before.
+/// Builds a C text in the folder by a farm with the quorums that are asked for. The folder's lock is taken once, behind the text's acceptance,
+/// and held to the end: nobody reads or puts a file there without it. The bundle is put in its file, where one is asked for, then the linked
+/// program in its own, and then the report is printed on one line and flushed. What is shown while the farm runs is taken away before.
 pub fn build_text<H: Naming + Send, R: Threads + Wait + Sync, F: Files, M: Meter, W: Write>(
     host: &Host<'_, H, R>,
     text: &[u8],
@@ -76,20 +77,25 @@ pub fn build_text<H: Naming + Send, R: Threads + Wait + Sync, F: Files, M: Meter
     files: &mut F,
     meter: &mut M,
     out: &mut W,
-) -> Result<(), BuildingError>
-    requires { quorums ≡ quorums_of options }
+) -> (Result<(), BuildingError>, GivenBack<F::Disk, H>)
+    requires leave { F.may_lock files.now }
+    requires quorums { quorums ≡ quorums_of options }
 
     // The last file that is put holds the text of a program that keeps the meaning of the C program. Where a bundle is asked for it is put
-    // before, and nothing else is: `verify` says yes of the text and these two. The report is printed.
-    ensures built { OnOk result (FarmBuilds ⟦<F as Farm<H>>⟧ W.contents options.entry text.now files out) }
+    // before, and nothing else is: `verify` says yes of the text and these two. The report is printed. The nodes that agreed on it are given
+    // back, and each one's disk holds its journal.
+    ensures built { OnOk result.0 (FarmBuilds ⟦<F as Farm<H>>⟧ W.contents options.entry text.now files out result.1) }
 
-    // What is refused puts no program and prints nothing, and a refused text makes no file. Only where the program's file is refused was the
-    // bundle put. The output is the last that can be refused.
-    ensures refused { IfErr result (FarmBuildsNot ⟦<F as Farm<H>>⟧ W.contents options.entry text.now files out) }
+    // What is refused prints nothing, and a refused text makes no file. Where a file is refused the old one stands there or the new one, whole:
+    // the bundle's comes first, and behind it the program's. The output is the last that can be refused. Behind the opening of the farm the nodes
+    // are given back, and each one's disk holds its journal.
+    ensures refused { IfErr result.0 (FarmBuildsNot ⟦<F as Farm<H>>⟧ W.contents options.entry text.now files out result.1) }
 {
-    let (built, lock) = match compiled(host, text, options, quorums, files, meter) {
+    let (made, back) = compiled(host, text, options, quorums, files, meter);
+    let (built, lock) = match made {
         Ok(made) => made,
-        Err(fault) => return Err(fault),
+        Err(fault) => return (Err(fault), back),
     };
-    put_built(host.alloc, options, files, &lock, built, out)
+    let done = put_built(host.alloc, options, files, &lock, built, out);
+    (done, back)
 }

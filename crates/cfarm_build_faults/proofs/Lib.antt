@@ -1,1 +1,1 @@
-pub use Rattle.farm_nodes.proofs.Coming
+pub use Rattle.farm_nodes.proofs.Turning

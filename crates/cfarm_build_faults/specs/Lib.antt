@@ -7,6 +7,8 @@ pub use Rattle.farm_nodes.specs.Refused
 pub use Rattle.farm_nodes.specs.Back
 pub use Rattle.farm_nodes.specs.Opened
 pub use Rattle.farm_nodes.specs.Words
-pub use Rattle.farm_nodes.specs.CameBack
+pub use Rattle.farm_nodes.specs.After
 pub use Rattle.farm_nodes.specs.Nodes
+pub use Rattle.farm_nodes.specs.OneTurn
+pub use Rattle.farm_nodes.specs.Stopped
 pub use Rattle.farm_nodes_turn_offer.specs.Halted

@@ -1,5 +1,5 @@
 -- Files that are made, one after another.
-use Rattle.std.proofs.Common.{◌≡◌, ℕ, List, [], ◌∷◌, ◌++◌, map, Option, None, Some, sym, ap, ◌∙◌}
+use Rattle.std.proofs.Common.{◌≡◌, ℕ, List, [], ◌∷◌, ◌++◌, map, Option, None, Some, refl, sym, ap, ◌∙◌}
 use Rattle.std.specs.List.{AllByRecursion}
 use Rattle.std.proofs.lemmas.List.{append_assoc, append-nil, map-append}
 use Rattle.cfarm_files.specs.Placing.{Placed, KeepsFolder, Makes, Places, made_at}
@@ -36,6 +36,10 @@ module _ (IsSuch : List ℕ → Type 0) where
       )
 
 -- what is known of the files after a put, and after none
+pub keeps_same : (o : Option (List Placed)) → KeepsFolder o o
+keeps_same None = tt
+keeps_same (Some placed) = refl
+
 pub keeps_through : (a b c : Option (List Placed)) → KeepsFolder a b → KeepsFolder b c → KeepsFolder a c
 keeps_through None b c one two = tt
 keeps_through (Some before) None c one two = absurd (cc one)

@@ -4,7 +4,7 @@ use Rattle.std.specs.Global.{Vec}
 use Rattle.cfarm_files.specs.Placing.{Placed}
 use Rattle.cfarm_options.specs.declared.options.BuildOptions.{BuildOptions}
 use Rattle.cfarm_build_folder.specs.Changed.{Changed}
-use Rattle.cfarm_build_folder.specs.Putting.{PlacesBoth, PlacesBundle, PutsNoProgram}
+use Rattle.cfarm_build_folder.specs.Putting.{MayPlaceBundle, PlacesBoth, PlacesBundle, PlacesNotBoth}
 use Rattle.cfarm_build_folder.specs.declared.error.BuildingError.{BuildingError}
 
 -- the bytes of a bundle, where there is one
@@ -16,10 +16,14 @@ module _ {F : Type 0} (placed : F → Option (List Placed)) (files : Changed F) 
   abbrev pub HasPutBundle : (path : Option (List ℕ)) → Option (Vec ℕ) → Type 0
   HasPutBundle path bundle = PlacesBundle path (bundle_bytes bundle) (placed files.entry.now) (placed files.exit.now)
 
+  -- the file of this path was refused: the old one stands there or the bundle, whole
+  abbrev pub MayHavePutBundle : (path : Option (List ℕ)) → Option (Vec ℕ) → Type 0
+  MayHavePutBundle path bundle = MayPlaceBundle path (bundle_bytes bundle) (placed files.entry.now) (placed files.exit.now)
+
   -- the bundle, where one is asked for, and then the program were put
   abbrev pub HasPutBoth : BuildOptions → Option (Vec ℕ) → (program : List ℕ) → Type 0
   HasPutBoth options bundle program = PlacesBoth options (bundle_bytes bundle) (placed files.entry.now) (placed files.exit.now) program
 
-  -- a file was refused, and no program put
-  abbrev pub HasPutNoProgram : BuildOptions → Option (Vec ℕ) → BuildingError → Type 0
-  HasPutNoProgram options bundle fault = PutsNoProgram options (bundle_bytes bundle) (placed files.entry.now) (placed files.exit.now) fault
+  -- a file was refused, at whose path the old one stands or the new one, whole; behind the bundle's nothing was put
+  abbrev pub HasNotPutBoth : BuildOptions → Option (Vec ℕ) → (program : List ℕ) → BuildingError → Type 0
+  HasNotPutBoth options bundle program fault = PlacesNotBoth options (bundle_bytes bundle) (placed files.entry.now) (placed files.exit.now) program fault

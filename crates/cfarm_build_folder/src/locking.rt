@@ -10,12 +10,13 @@ use cfarm_build_faults::BuildError;
 use cfarm_files::{FileFault, Files, lock_path};
 use std::alloc::Global;
 
-/// The lock of the folder, if nobody has it.
+/// The lock of the folder, if nobody has it, by the leave to take one.
 pub fn locked<F: Files>(
     alloc: Global,
     folder: &str,
     files: &mut F,
 ) -> Result<F::Lock, BuildingError>
+    requires leave { F.may_lock files.now }
     ensures covers { IfOk result (λ lock. CoversFolder (F.covers lock) folder.now) }
     ensures refused { IfErr result (IsRefusedAt (lock_path folder.now)) }
     ensures made { Makes (F.placed files.old) (F.placed files.new) (λ path. path ≡ lock_path folder.now) }

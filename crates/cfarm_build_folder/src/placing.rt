@@ -3,10 +3,10 @@
 ghost use Rattle.std.specs.Prelude.{◌≡◌, OnOk, OnErr, IfErr, is_some, option_copied};
 ghost use Rattle.std.specs.String.{string_bytes};
 ghost use Rattle.cfarm_files.specs.Locking.{CoversFolder};
-ghost use Rattle.cfarm_files.specs.Placing.{KeepsFolder, Places};
+ghost use Rattle.cfarm_files.specs.Placing.{MayPlace, Places};
 ghost use Rattle.cfarm_options.specs.Paths.{linked_path};
 ghost use Rattle.cfarm_build_folder.specs.Disks.{IsRefusedAt};
-ghost use Rattle.cfarm_build_folder.specs.Done.{HasPutBoth, HasPutBundle, HasPutNoProgram};
+ghost use Rattle.cfarm_build_folder.specs.Done.{HasNotPutBoth, HasPutBoth, HasPutBundle, MayHavePutBundle};
 ghost use Rattle.cfarm_build_folder.specs.Putting.{IsUnbundled};
 
 use crate::error::BuildingError;
@@ -36,7 +36,7 @@ fn place<F: Files>(
     requires locked { CoversFolder (F.covers lock.now) folder.now }
     ensures put { OnOk result (Places (F.placed files.old) (F.placed files.new) (linked_path folder.now) program.now) }
     ensures refused { IfErr result (IsRefusedAt (linked_path folder.now)) }
-    ensures kept { OnErr result (KeepsFolder (F.placed files.old) (F.placed files.new)) }
+    ensures whole { OnErr result (MayPlace (F.placed files.old) (F.placed files.new) (linked_path folder.now) program.now) }
 {
     let Ok(path) = linked_path(alloc, folder) else {
         return Err(BuildingError::Build(BuildError::NoMemory));
@@ -66,7 +66,7 @@ fn place_bundle<F: Files>(
 ) -> Result<(), BuildingError>
     ensures put { OnOk result (Places (F.placed files.old) (F.placed files.new) path.now bundle.now) }
     ensures refused { IfErr result (IsRefusedAt path.now) }
-    ensures kept { OnErr result (KeepsFolder (F.placed files.old) (F.placed files.new)) }
+    ensures whole { OnErr result (MayPlace (F.placed files.old) (F.placed files.new) path.now bundle.now) }
 {
     match files.put_at(path, bundle) {
         Ok(()) => Ok(()),
@@ -85,7 +85,7 @@ fn place_given<F: Files>(
     requires made { is_some bundle.now ≡ is_some path }
     ensures put { OnOk result (HasPutBundle F.placed files (option_copied path.entry) bundle.now) }
     ensures refused { IfErr result (IsUnbundled (option_copied path.entry)) }
-    ensures kept { OnErr result (KeepsFolder (F.placed files.old) (F.placed files.new)) }
+    ensures whole { OnErr result (MayHavePutBundle F.placed files (option_copied path.entry) bundle.now) }
 {
     let Some(path) = path else {
         return Ok(());
@@ -108,7 +108,7 @@ pub fn place_both<F: Files>(
     requires locked { CoversFolder (F.covers lock.now) options.folder.now }
     requires made { is_some bundle.now ≡ is_some options.bundle }
     ensures put { OnOk result (HasPutBoth F.placed files options.entry bundle.now program.now) }
-    ensures refused { IfErr result (HasPutNoProgram F.placed files options.entry bundle.now) }
+    ensures refused { IfErr result (HasNotPutBoth F.placed files options.entry bundle.now program.now) }
 {
     match place_given(alloc, options.bundle, files, bundle) {
         Ok(()) => {}

@@ -1,2 +1,1 @@
 pub mod Faults
-pub use Rattle.farm_nodes_turn_passes.specs.Fours

@@ -6,7 +6,7 @@ use Rattle.std.proofs.lemmas.Option.{slice_get_within}
 use Rattle.rooms_hall.specs.declared.hall.Naming as naming
 use Rattle.farm_nodes_link.specs.NumberedSeat.{NumberedSeat}
 use Rattle.cfarm_build_result.specs.declared.function.FunctionRooms.{FunctionRooms}
-use Rattle.cfarm_build_result.specs.Told.{AreTold, IsTold}
+use Rattle.cfarm_build_result.specs.Told.{AreTold, TellsRooms}
 
 -- one behind the others
 front : {A : Type 0} (xs : List A) (x y : A) (k : ℕ) → k < length xs → slice_get (xs ++ x ∷ []) k ≡ Some y → slice_get xs k ≡ Some y
@@ -29,13 +29,13 @@ module _ {H : Type 0} {h : naming.Ghosts H} (names : List (List ℕ)) (seats : L
   pub record AreTolds (so_far : ℕ) (told : List FunctionRooms) : Type 0 where
     pub count : length told ≡ so_far
     pub each : (k : ℕ) (name : List ℕ) (s : NumberedSeat H h) (f : FunctionRooms) → slice_get names k ≡ Some name
-        → slice_get seats k ≡ Some s → slice_get told k ≡ Some f → IsTold name s f
+        → slice_get seats k ≡ Some s → slice_get told k ≡ Some f → TellsRooms name s f
 
   pub none_told : AreTolds 0 []
   none_told = record { count = refl; each = λ k name s f en es ef. absurd (cc ef) }
 
   pub one_told : (n : ℕ) (told : List FunctionRooms) (f : FunctionRooms) (name : List ℕ) (s : NumberedSeat H h) → AreTolds n told
-      → slice_get names n ≡ Some name → slice_get seats n ≡ Some s → IsTold name s f → AreTolds (n + 1) (told ++ f ∷ [])
+      → slice_get names n ≡ Some name → slice_get seats n ≡ Some s → TellsRooms name s f → AreTolds (n + 1) (told ++ f ∷ [])
   one_told n told f name s are en es is = record {
     count = let long = longer told f in omega (arith, long, are.count);
     each = λ k name2 s2 f2 en2 es2 ef2. elim (cases_eq k n) [
@@ -43,7 +43,7 @@ module _ {H : Type 0} {h : naming.Ghosts H} (names : List (List ℕ)) (seats : L
           let same_name : name ≡ name2 = (let both : Some name ≡ Some name2 = sym en ∙ (sym (ap (λ j. slice_get names j) same) ∙ en2) in cc both) in
           let same_seats : s ≡ s2 = (let both : Some s ≡ Some s2 = sym es ∙ (sym (ap (λ j. slice_get seats j) same) ∙ es2) in cc both) in
           let same_told : f ≡ f2 = last told f f2 k (same ∙ sym are.count) ef2 in
-          subst (λ x. IsTold x s2 f2) same_name (subst (λ x. IsTold name x f2) same_seats (subst (λ x. IsTold name s x) same_told is))
+          subst (λ x. TellsRooms x s2 f2) same_name (subst (λ x. TellsRooms name x f2) same_seats (subst (λ x. TellsRooms name s x) same_told is))
       | inr other ↦
           let within : k < length (told ++ f ∷ []) = slice_get_within (told ++ f ∷ []) k f2 ef2 in
           let long = longer told f in

@@ -6,6 +6,7 @@ pub mod Node
 pub mod Told
 pub use Rattle.bundle_offers.specs.Linking
 pub use Rattle.farm_nodes_link.specs.Alike
+pub use Rattle.farm_nodes_link.specs.Going
 pub use Rattle.farm_nodes_link.specs.FarmNodesMeetSeatsHeld
 pub use Rattle.farm_nodes_link.specs.Learned
 pub use Rattle.farm_nodes_link.specs.Lists

@@ -11,7 +11,7 @@ abbrev pub function_names : Contents → List (List ℕ)
 function_names program = map (λ f. f.name) program.functions
 
 module _ {H : Type 0} {h : naming.Ghosts H} where
-  pub record IsTold (name : List ℕ) (seats : NumberedSeat H h) (told : FunctionRooms) : Type 0 where
+  pub record TellsRooms (name : List ℕ) (seats : NumberedSeat H h) (told : FunctionRooms) : Type 0 where
     pub name_is : string_bytes told.name ≡ name
     pub first : seats.seat.first.words.node.learned ≡ Some told.first
     pub second : seats.seat.second.words.node.learned ≡ Some told.second
@@ -22,4 +22,4 @@ module _ {H : Type 0} {h : naming.Ghosts H} where
   pub record AreTold (names : List (List ℕ)) (seats : List (NumberedSeat H h)) (told : List FunctionRooms) : Type 0 where
     pub count : length told ≡ length names
     pub each : (k : ℕ) (name : List ℕ) (s : NumberedSeat H h) (f : FunctionRooms) → slice_get names k ≡ Some name
-        → slice_get seats k ≡ Some s → slice_get told k ≡ Some f → IsTold name s f
+        → slice_get seats k ≡ Some s → slice_get told k ≡ Some f → TellsRooms name s f

@@ -5,7 +5,7 @@ ghost use Rattle.std.specs.String.{string_bytes};
 ghost use Rattle.c_checker_rules.specs.Checked.{program_tree};
 ghost use Rattle.cminor_program_ranges.specs.Names.{HaveNames};
 ghost use Rattle.farm_nodes_link.specs.Learned.{learned_by, learned_four, IsUndecided};
-ghost use Rattle.cfarm_build_result.specs.Told.{AreTold, IsTold, function_names};
+ghost use Rattle.cfarm_build_result.specs.Told.{AreTold, TellsRooms, function_names};
 
 use crate::function::FunctionRooms;
 use c_checker_rules::CProgram;
@@ -29,7 +29,7 @@ pub fn linked_functions<H: Naming>(seats: &[NumberedSeat<H>]) -> usize
 /// What is told of a function of this name: the four numbers, where all are learned.
 fn told<H: Naming>(name: String, seats: &NumberedSeat<H>) -> FunctionRooms
     requires { IsSome (learned_four seats.now) }
-    ensures { IsTold (string_bytes name) seats.now result }
+    ensures { TellsRooms (string_bytes name) seats.now result }
 {
     let Some(first) = seats.seat.first.learned() else {
         unreachable!();

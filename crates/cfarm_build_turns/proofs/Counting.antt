@@ -10,8 +10,10 @@ use Rattle.cfarm_build_result.specs.Neighbours.{EachTwo}
 use Rattle.cfarm_build_result.specs.FarmNodesMeetSeatsHeld.{held_of}
 use Rattle.cfarm_build_result.specs.Learned.{learned_by}
 use Rattle.cfarm_build_result.specs.Lists.{HaveMetAll}
-use Rattle.farm_nodes_turn_passes.specs.NumberedSeat.{NumberedSeat}
+use Rattle.farm_nodes_turn_node.specs.NumberedSeat.{NumberedSeat}
+use Rattle.cfarm_build_result.specs.Going.{SeatsGoOn}
 use Rattle.cfarm_build_result.proofs.Alike.{counted_now, keeps_through}
+use Rattle.cfarm_build_result.proofs.Going.{go_through}
 use Rattle.cfarm_build_turns.specs.Nodes.{AreCountedAt, AreMissed}
 use Rattle.cfarm_build_result.proofs.Zips.{as_long, zipped}
 
@@ -40,12 +42,14 @@ module _ {H : Type 0} {h : naming.Ghosts H} where
   not_counted xs ys xs' ys' count met missed = record { first = xs; second = ys; count = count; met = met; missed = missed }
 
   -- whatever they meet since
-  counted_still : (xs ys xs' ys' : List (NumberedSeat H h)) → KeepsLearned (learned_by xs) (learned_by xs') → KeepsLearned (learned_by ys) (learned_by ys')
-      → HaveCounted xs ys → HaveCounted xs' ys'
-  counted_still xs ys xs' ys' first second counted = record {
+  counted_still : (xs ys xs' ys' : List (NumberedSeat H h)) → SeatsGoOn xs xs' → SeatsGoOn ys ys'
+      → KeepsLearned (learned_by xs) (learned_by xs') → KeepsLearned (learned_by ys) (learned_by ys') → HaveCounted xs ys → HaveCounted xs' ys'
+  counted_still xs ys xs' ys' first_on second_on first second counted = record {
     first = counted.first;
     second = counted.second;
     counted = counted.counted;
+    first_on = go_through counted.first xs xs' counted.first_on first_on;
+    second_on = go_through counted.second ys ys' counted.second_on second_on;
     first_keeps = keeps_through (learned_by counted.first) (learned_by xs) (learned_by xs') counted.first_keeps first;
     second_keeps = keeps_through (learned_by counted.second) (learned_by ys) (learned_by ys') counted.second_keeps second;
   }
@@ -76,7 +80,8 @@ module _ {N H : Type 0} {h : naming.Ghosts H} (seats : N → List (NumberedSeat 
   pub none_back : (nodes : List N) → AreBack 1 nodes
   none_back nodes k end n m en em = let within = slice_get_within nodes (suc k) m em in absurd (omega (arith, within, end))
 
-  module _ (Are : N → N → Type 0) (keeps : (n m : N) → Are n m → KeepsLearned (learned_by (seats n)) (learned_by (seats m))) where
+  module _ (Are : N → N → Type 0) (on : (n m : N) → Are n m → SeatsGoOn (seats n) (seats m))
+      (keeps : (n m : N) → Are n m → KeepsLearned (learned_by (seats n)) (learned_by (seats m))) where
     pub one_back : (done number : ℕ) (old new : List N) → AllZip Are old new → number + 1 + done ≡ length old
         → AreCountedAt seats new number → AreBack done old → AreBack (done + 1) new
     one_back done number old new zip at counted back k end n m en em = elim (cases_eq k number) [
@@ -85,7 +90,7 @@ module _ {N H : Type 0} {h : naming.Ghosts H} (seats : N → List (NumberedSeat 
           let x = zipped Are old new k n zip en in
           let y = zipped Are old new (suc k) m zip em in
           let long = as_long Are old new zip in
-          counted_still (seats x.0) (seats y.0) (seats n) (seats m) (keeps x.0 n x.2) (keeps y.0 m y.2)
+          counted_still (seats x.0) (seats y.0) (seats n) (seats m) (on x.0 n x.2) (on y.0 m y.2) (keeps x.0 n x.2) (keeps y.0 m y.2)
           (back k (omega (arith, end, other, at, long)) x.0 y.0 x.1 y.1)
     ]
 

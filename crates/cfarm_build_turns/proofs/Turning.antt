@@ -1,171 +1,183 @@
--- What turns and meetings leave of a node, one behind another.
-use Rattle.std.proofs.Common.{◌≡◌, ℕ, List, map, length, ◌++◌, take, drop, Option, None, refl, sym, ap, subst, subst₂, ◌∙◌}
+-- What turns and meetings leave of nodes, one behind another, and what the nodes hold that come back.
+use Rattle.std.proofs.Common.{◌≡◌, ◌≤◌, ◌+◌, ℕ, zero, suc, List, [], ◌∷◌, map, length, ◌++◌, take, drop, Option, Some, None, refl, sym, ap, subst, subst₂, ◌∙◌, arith}
+use Rattle.std.proofs.lemmas.List.{length-map}
+use Rattle.std.proofs.lemmas.Option.{slice_get-map}
 use Rattle.std.specs.Arc.{arc_value}
-use Rattle.std.specs.List.{All, AllByRecursion, AllZip}
+use Rattle.std.specs.List.{AllByRecursion, AllZip}
+use Rattle.std.specs.Prelude.{option_map, slice_get}
 use Rattle.durable_model.specs.declared.disk.Disk as disks
 use Rattle.durable_pair.specs.declared.pair.Pair as pairs
+use Rattle.lang_base.specs.declared.program.Program.{Program}
+use Rattle.rtl_language.specs.Function.{FunctionData}
 use Rattle.acceptor_log.specs.declared.log.Log.{Log}
-use Rattle.rand_pcg.specs.Lcg.{Lcg}
 use Rattle.rooms_hall.specs.declared.hall.Naming as naming
-use Rattle.farm_nodes_turn_passes.specs.Fours.{Four, fours_of}
-use Rattle.farm_nodes_turn_passes.specs.NumberedSeat.{NumberedSeat}
-use Rattle.farm_nodes_turn_node.specs.declared.halted.Halted.{Halted}
-use Rattle.farm_nodes_turn_node.specs.Held.{fault_in, IsSoundNode}
-use Rattle.cfarm_build_result.specs.Source.{Source}
+use Rattle.farm_nodes_turn_node.proofs.Places.{mapped}
+use Rattle.farm_nodes_turn_node.specs.Asked.{MayBeAsked}
+use Rattle.farm_nodes_turn_node.specs.declared.farm_node.FarmNode.{FarmNode}
+use Rattle.farm_nodes_turn_node.specs.Held.{fault_in}
+use Rattle.farm_nodes_turn_offer.specs.declared.halt.Fault.{Fault}
+use Rattle.farm_nodes_turn_node.specs.Fours.{fours_of}
 use Rattle.paxos_core_world.specs.Quorum.{Sizes}
-use Rattle.cfarm_build_faults.specs.Words.{generators}
-use Rattle.cfarm_build_faults.specs.Back.{AreJournalsOn}
-use Rattle.cfarm_build_faults.specs.Opened.{AreOpenFromJournals}
-use Rattle.cfarm_build_faults.specs.CameBack.{CameBack}
-use Rattle.farm_nodes_turn_passes.specs.Offers.{ConstantsOffer, ExpressionsOffer, AllocationOffer, OrderOffer}
-use Rattle.farm_nodes_turn_passes.specs.Texts.{pass_texts}
-use Rattle.cfarm_build_result.specs.Learned.{FourOffers, learned_by}
+use Rattle.cfarm_build_result.specs.Source.{Source}
+use Rattle.cfarm_build_result.specs.Learned.{learned_by}
 use Rattle.cfarm_build_result.proofs.Alike.{keeps_none, keeps_through}
-use Rattle.cfarm_build_faults.proofs.Coming.{came_through}
-use Rattle.cfarm_build_result.specs.Node.{Node, node}
-use Rattle.cfarm_build_turns.specs.Nodes.{Begun, HasStayed, HaveMet, HaveRun, IsSound, Meets, TurnedInto, failed_of, lowest_failed}
-use Rattle.cfarm_build_result.proofs.Zips.{all_mapped, all_of, all_weaker, as_long, kept, map_twice, seen, through, written}
+use Rattle.cfarm_build_result.proofs.Going.{go_nowhere, go_through}
+use Rattle.cfarm_build_result.proofs.Zips.{as_long, kept, through, written, zipped}
+use Rattle.cfarm_build_faults.proofs.Turning.{came_back_through}
+use Rattle.cfarm_build_faults.specs.Nodes.{NodeCameBack}
+use Rattle.cfarm_build_faults.specs.Stopped.{IsStoppedFor}
+use Rattle.cfarm_build_turns.specs.Nodes.{AreBack, HasStopped, HaveOpened, NodeStays, failed_of, lowest_failed}
 
--- A node is seen as its program, its journal, its seats and what stopped it.
-module _ {N G D : Type 0} (disk : disks.Ghosts D) (program : N → G) (log : N → Log D) (fours : N → List (Four ConstantsOffer ExpressionsOffer AllocationOffer OrderOffer))
-    (halted : N → Option Halted) where
-  abbrev pub Turns : N → N → Type 0
-  Turns n m = (program m ≡ program n) × CameBack disk.is_honest disk.seen disk.may_leave disk.moment disk.left_since
-      (log n) (log m) (fours n) (fours m) (halted n) (halted m)
+-- what stands at a place
+here : {A : Type 0} (P : A → Type 0) (xs : List A) (i : ℕ) (x : A) → AllByRecursion P xs → slice_get xs i ≡ Some x → P x
+here P [] i x all e = absurd (cc e)
+here P (y ∷ ys) zero x all e = subst P (let same : y ≡ x = cc e in same) all.0
+here P (y ∷ ys) (suc i) x all e = here P ys i x all.1 e
 
-  pub turns_through : (xs ys zs : List N) → AllZip Turns xs ys → AllZip Turns ys zs → AllZip Turns xs zs
-  turns_through = through Turns (λ x y z p q. (
-    q.0 ∙ p.0,
-    came_through pass_texts disk.is_honest disk.seen disk.may_leave disk.moment disk.left_since (log x) (log y) (log z) (fours x) (fours y) (fours z)
-        (halted x) (halted y) (halted z) p.1 q.1,
-  ))
+-- the fault of the node that failed stands at its place
+failed_at : (k : ℕ) (faults : List (Option Fault)) (number : ℕ) (told : Fault) → lowest_failed k faults ≡ Some (number, told)
+    → (at : ℕ) × (number ≡ k + at) × (slice_get faults at ≡ Some (Some told))
+failed_at k [] number told is = absurd (cc is)
+failed_at k (None ∷ faults) number told is =
+    let behind = failed_at (suc k) faults number told is in
+    let at = behind.1 in
+    (suc behind.0, omega (arith, at), behind.2)
+failed_at k (Some f ∷ faults) number told is =
+    let both : (k, f) ≡ (number, told) = cc is in
+    let same : k ≡ number = ap (λ (x : ℕ × Fault). x.0) both in
+    let fault : f ≡ told = ap (λ (x : ℕ × Fault). x.1) both in
+    (zero, omega (arith, same), ap (λ (x : Fault). Some (Some x)) fault)
 
--- so it is where they meet, and of what each has learned
-module _ {N G D : Type 0} (disk : disks.Ghosts D) (program : N → G) (log : N → Log D)
-    (fours : N → List (Four ConstantsOffer ExpressionsOffer AllocationOffer OrderOffer)) (halted : N → Option Halted) (learned : N → List (Option FourOffers)) where
-  abbrev Met : N → N → Type 0
-  Met = Meets disk program log fours halted learned
+module _ {D O H : Type 0} {h : naming.Ghosts H} (disk : disks.Ghosts D) where
+  -- ---- turns behind turns
 
-  pub meets_none : (x : N) → Met x x
-  meets_none x = (refl, record { log = refl; halted_same = refl; sound = λ s. s; learned_still = keeps_none (learned x) })
+  pub wider : (most more : ℕ) (xs ys : List (FarmNode D O H h)) → most ≤ more → AllZip (NodeCameBack disk most) xs ys → AllZip (NodeCameBack disk more) xs ys
+  wider most more [] [] low z = tt
+  wider most more [] (y ∷ ys) low z = absurd z
+  wider most more (x ∷ xs) [] low z = absurd z
+  wider most more (x ∷ xs) (y ∷ ys) low z = (
+    (z.0.0, z.0.1, z.0.2, record { taken = z.0.3.taken; counted = let a = z.0.3.counted in omega (arith, low, a); after = z.0.3.after }),
+    wider most more xs ys low z.1,
+  )
 
-  pub meets_through : (xs ys zs : List N) → AllZip Met xs ys → AllZip Met ys zs → AllZip Met xs zs
-  meets_through = through Met (λ x y z p q. (
-    q.0 ∙ p.0,
-    record {
-      log = q.1.log ∙ p.1.log;
-      halted_same = q.1.halted_same ∙ p.1.halted_same;
-      sound = λ s. q.1.sound (p.1.sound s);
-      learned_still = keeps_through (learned x) (learned y) (learned z) p.1.learned_still q.1.learned_still;
-    },
-  ))
+  pub turns_through : (most more all : ℕ) (xs ys zs : List (FarmNode D O H h)) → most + more ≤ all → AllZip (NodeCameBack disk most) xs ys
+      → AllZip (NodeCameBack disk more) ys zs → AllZip (NodeCameBack disk all) xs zs
+  turns_through most more all [] [] [] low z w = tt
+  turns_through most more all [] [] (u ∷ us) low z w = absurd w
+  turns_through most more all [] (y ∷ ys) zs low z w = absurd z
+  turns_through most more all (x ∷ xs) [] zs low z w = absurd z
+  turns_through most more all (x ∷ xs) (y ∷ ys) [] low z w = absurd w
+  turns_through most more all (x ∷ xs) (y ∷ ys) (u ∷ us) low z w =
+      let both = came_back_through disk most more x y u z.0 w.0 in (
+        (both.0, both.1, both.2, record { taken = both.3.taken; counted = let a = both.3.counted in omega (arith, low, a); after = both.3.after }),
+        turns_through most more all xs ys us low z.1 w.1,
+      )
+
+  -- ---- meetings behind meetings
+
+  pub meets_none : (x : FarmNode D O H h) → NodeStays disk x x
+  meets_none x = record {
+    program = refl;
+    log = refl;
+    draws = refl;
+    halted_same = refl;
+    seats_on = go_nowhere x.seats.items;
+    learned_still = keeps_none (learned_by x.seats.items);
+    fit = λ s. s;
+  }
+
+  stays_through : (x y z : FarmNode D O H h) → NodeStays disk x y → NodeStays disk y z → NodeStays disk x z
+  stays_through x y z p q = record {
+    program = q.program ∙ p.program;
+    log = q.log ∙ p.log;
+    draws = q.draws ∙ p.draws;
+    halted_same = q.halted_same ∙ p.halted_same;
+    seats_on = go_through x.seats.items y.seats.items z.seats.items p.seats_on q.seats_on;
+    learned_still = keeps_through (learned_by x.seats.items) (learned_by y.seats.items) (learned_by z.seats.items) p.learned_still q.learned_still;
+    fit = λ s. q.fit (p.fit s);
+  }
+
+  pub meets_through : (xs ys zs : List (FarmNode D O H h)) → AllZip (NodeStays disk) xs ys → AllZip (NodeStays disk) ys zs → AllZip (NodeStays disk) xs zs
+  meets_through = through (NodeStays disk) stays_through
 
   -- those that met in place, in a list of so many
-  pub new_there : (n : ℕ) (ys old new now : List N) → old ≡ ys → n ≡ length ys → now ≡ take n (new ++ drop (length new) ys)
-      → AllZip Met old new → now ≡ new
+  pub new_there : (n : ℕ) (ys old new now : List (FarmNode D O H h)) → old ≡ ys → n ≡ length ys → now ≡ take n (new ++ drop (length new) ys)
+      → AllZip (NodeStays disk) old new → now ≡ new
   new_there n ys old new now same count is met =
-      let over : AllZip Met ys new = subst (λ l. AllZip Met l new) same met in
-      is ∙ written n new ys count (as_long Met ys new over)
+      let over : AllZip (NodeStays disk) ys new = subst (λ l. AllZip (NodeStays disk) l new) same met in
+      is ∙ written n new ys count (as_long (NodeStays disk) ys new over)
 
-  pub meets_there : (n : ℕ) (ys old new now : List N) → old ≡ ys → n ≡ length ys → now ≡ take n (new ++ drop (length new) ys)
-      → AllZip Met old new → AllZip Met ys now
+  pub meets_there : (n : ℕ) (ys old new now : List (FarmNode D O H h)) → old ≡ ys → n ≡ length ys → now ≡ take n (new ++ drop (length new) ys)
+      → AllZip (NodeStays disk) old new → AllZip (NodeStays disk) ys now
   meets_there n ys old new now same count is met =
-      subst₂ (λ l r. AllZip Met l r) same (sym (new_there n ys old new now same count is met)) met
+      subst₂ (λ l r. AllZip (NodeStays disk) l r) same (sym (new_there n ys old new now same count is met)) met
 
-  -- what stopped each of them is what it was
-  pub going_still : (xs ys : List N) → AllZip Met xs ys → AllByRecursion (λ n. halted n ≡ None) xs → AllByRecursion (λ n. halted n ≡ None) ys
-  going_still xs ys met so = kept Met (λ n. halted n ≡ None) (λ n. halted n ≡ None) (λ x y it none. it.1.halted_same ∙ none) xs ys met so
+  -- what stopped each of them is what it was, and each has its program
+  pub going_still : (xs ys : List (FarmNode D O H h)) → AllZip (NodeStays disk) xs ys → AllByRecursion (λ n. n.halted ≡ None) xs → AllByRecursion (λ n. n.halted ≡ None) ys
+  going_still xs ys met so = kept (NodeStays disk) (λ n. n.halted ≡ None) (λ n. n.halted ≡ None) (λ x y it none. it.halted_same ∙ none) xs ys met so
 
--- those that took turns and met, as they opened and as they are
-module _ {N G D H : Type 0} {h : naming.Ghosts H} (disk : disks.Ghosts D) (program : N → G) (log : N → Log D) (seats : N → List (NumberedSeat H h))
-    (draws : N → Lcg) (halted : N → Option Halted) where
-  abbrev pub begun_of : N → Begun D H h
-  begun_of n = record { log = log n; seats = seats n; draws = draws n }
+  pub such_still : (P : Program FunctionData → Type 0) (xs ys : List (FarmNode D O H h)) → AllZip (NodeStays disk) xs ys
+      → AllByRecursion (λ n. P (arc_value n.program)) xs → AllByRecursion (λ n. P (arc_value n.program)) ys
+  such_still P xs ys met so = kept (NodeStays disk) (λ n. P (arc_value n.program)) (λ n. P (arc_value n.program))
+      (λ x y it few. subst (λ p. P (arc_value p)) (sym it.program) few) xs ys met so
 
-  abbrev pub node_of : N → Node D H h
-  node_of n = node (log n) (seats n) (halted n)
+  pub such_turned : (P : Program FunctionData → Type 0) (most : ℕ) (xs ys : List (FarmNode D O H h)) → AllZip (NodeCameBack disk most) xs ys
+      → AllByRecursion (λ n. P (arc_value n.program)) xs → AllByRecursion (λ n. P (arc_value n.program)) ys
+  such_turned P most xs ys turned so = kept (NodeCameBack disk most) (λ n. P (arc_value n.program)) (λ n. P (arc_value n.program))
+      (λ x y it few. subst (λ p. P (arc_value p)) (sym it.0) few) xs ys turned so
 
-  abbrev pub SoundOf : N → Type 0
-  SoundOf n = IsSoundNode disk.is_honest disk.seen disk.may_leave (log n) (fours_of (seats n)) (halted n)
+  -- ---- what the nodes hold that come back
 
-  turned : (xs ys : List N) → AllByRecursion (λ n. halted n ≡ None) xs
-      → AllZip (Turns disk program log (λ n. fours_of (seats n)) halted) xs ys
-      → AllZip (TurnedInto disk) (map begun_of xs) (map node_of ys)
-  turned xs ys going turns = seen (Turns disk program log (λ n. fours_of (seats n)) halted) begun_of node_of (λ n. halted n ≡ None)
-      (TurnedInto disk) (λ x y none it. subst (λ o. CameBack disk.is_honest disk.seen disk.may_leave disk.moment disk.left_since
-      (log x) (log y) (fours_of (seats x)) (fours_of (seats y)) o (halted y)) none it.1) xs ys going turns
+  module _ (pair : pairs.Ghosts D) (q : Sizes) (source : Source) (given : List D) (seed turns : ℕ) (begun ran : List (FarmNode D O H h))
+      (opened : HaveOpened disk pair q source given seed begun) (turned : AllZip (NodeCameBack disk turns) begun ran) where
+    log_at : (i : ℕ) (b : FarmNode D O H h) → slice_get begun i ≡ Some b → slice_get (map (λ (n : FarmNode D O H h). n.log) begun) i ≡ Some b.log
+    log_at i b e = slice_get-map (λ (n : FarmNode D O H h). n.log) begun i ∙ ap (λ o. option_map (λ (n : FarmNode D O H h). n.log) o) e
 
-  sounds : (Q : N → Type 0) (ys : List N) → AllByRecursion (λ n. SoundOf n × Q n) ys → AllByRecursion SoundOf ys
-  sounds Q ys fit = all_weaker (λ n. SoundOf n × Q n) SoundOf (λ n both. both.0) ys fit
+    pub come_back : (nodes : List (FarmNode D O H h)) → AllZip (NodeStays disk) ran nodes → AllByRecursion (MayBeAsked disk) ran
+        → AreBack disk pair q source given seed turns begun ran nodes
+    come_back nodes met fit = record {
+      opened = opened;
+      turned = turned;
+      met = met;
+      hold = record {
+        count = as_long (NodeStays disk) ran nodes met ∙ (as_long (NodeCameBack disk turns) begun ran turned
+            ∙ (sym (length-map begun (λ (n : FarmNode D O H h). n.log)) ∙ opened.journals.count));
+        each = λ i p n ep en.
+            let x = zipped (NodeStays disk) ran nodes i n met en in
+            let b = zipped (NodeCameBack disk turns) begun ran i x.0 turned x.1 in
+            let on = opened.journals.each i p b.0.log ep (log_at i b.0 b.1) in
+            let log : n.log ≡ x.0.log = x.2.log in
+            let honest = b.2.1.honest in
+            let header = ap (λ (l : Log D). l.header) log ∙ (b.2.1.header ∙ on.1.header_is) in
+            record {
+              nodes = ap (λ x. x.nodes) header;
+              promise = ap (λ x. x.promise) header;
+              accept = ap (λ x. x.accept) header;
+              node = ap (λ x. x.node) header;
+              digest = ap (λ x. x.digest) header;
+              honest = (
+                λ is. on.1.honest.0 (honest.0 (subst (λ (l : Log D). disk.is_honest l.disk) log is)),
+                λ is. subst (λ (l : Log D). disk.is_honest l.disk) (sym log) (honest.1 (on.1.honest.1 is)),
+              );
+              fit = x.2.fit (here (MayBeAsked disk) ran i x.0 fit x.1);
+            };
+      };
+    }
 
-  pub have_run : (pair : pairs.Ghosts D) (q : Sizes) (seed : ℕ) (source : Source) (given : List D) (xs ys : List N)
-      → AreJournalsOn disk pair q source.digest given (map log xs)
-      → AreOpenFromJournals disk.is_honest disk.seen q (length (arc_value source.translated).functions) (map log xs) (map seats xs)
-      → map draws xs ≡ generators seed (length given) → AllByRecursion (λ n. halted n ≡ None) xs
-      → AllZip (Turns disk program log (λ n. fours_of (seats n)) halted) xs ys → AllByRecursion SoundOf ys
-      → HaveRun disk pair q seed source given (map node_of ys)
-  have_run pair q seed source given xs ys journals rooms drawn going turns sound = record {
-    begun = map begun_of xs;
-    journals = subst (λ l. AreJournalsOn disk pair q source.digest given l)
-        (sym (map_twice begun_of (λ b. b.log) xs)) journals;
-    rooms = subst₂ (λ l r. AreOpenFromJournals disk.is_honest disk.seen q (length (arc_value source.translated).functions) l r)
-        (sym (map_twice begun_of (λ b. b.log) xs)) (sym (map_twice begun_of (λ b. b.seats) xs)) rooms;
-    draws = map_twice begun_of (λ b. b.draws) xs ∙ drawn;
-    turned = turned xs ys going turns;
-    sound = all_mapped node_of (IsSound disk) ys sound;
-  }
-
-  -- the same of a farm that opened, whose nodes came back
-  pub ran : (pair : pairs.Ghosts D) (Q : N → Type 0) (q : Sizes) (seed : ℕ) (source opened : Source) (given : List D) (xs ys : List N) → opened ≡ source
-      → AreJournalsOn disk pair q opened.digest given (map log xs)
-      → AreOpenFromJournals disk.is_honest disk.seen q (length (arc_value opened.translated).functions) (map log xs) (map seats xs)
-      → map draws xs ≡ generators seed (length given) → All (λ n. halted n ≡ None) xs
-      → AllZip (Turns disk program log (λ n. fours_of (seats n)) halted) xs ys → AllByRecursion (λ n. SoundOf n × Q n) ys
-      → HaveRun disk pair q seed source given (map node_of ys)
-  ran pair Q q seed source opened given xs ys same journals rooms drawn going turns fit = have_run pair q seed source given xs ys
-      (subst (λ (s : Source). AreJournalsOn disk pair q s.digest given (map log xs)) same journals)
-      (subst (λ (s : Source). AreOpenFromJournals disk.is_honest disk.seen q (length (arc_value s.translated).functions) (map log xs) (map seats xs)) same rooms)
-      drawn (all_of (λ n. halted n ≡ None) xs going) turns (sounds Q ys fit)
-
-  pub have_met : (ys zs : List N) → AllByRecursion SoundOf ys → AllZip (Meets disk program log (λ n. fours_of (seats n)) halted (λ n. learned_by (seats n))) ys zs
-      → HaveMet disk (map node_of ys) (map node_of zs)
-  have_met ys zs sound met = record {
-    stay = seen (Meets disk program log (λ n. fours_of (seats n)) halted (λ n. learned_by (seats n))) node_of node_of SoundOf
-        (HasStayed disk) (λ x y s it. record { log = it.1.log; halted_same = it.1.halted_same; learned = it.1.learned_still }) ys zs sound met;
-    sound = all_mapped node_of (IsSound disk) zs (kept (Meets disk program log (λ n. fours_of (seats n)) halted (λ n. learned_by (seats n))) SoundOf SoundOf
-        (λ x y it s. it.1.sound s) ys zs met sound);
-  }
-
-  pub have_met_fit : (Q : N → Type 0) (ys zs : List N) → AllByRecursion (λ n. SoundOf n × Q n) ys
-      → AllZip (Meets disk program log (λ n. fours_of (seats n)) halted (λ n. learned_by (seats n))) ys zs → HaveMet disk (map node_of ys) (map node_of zs)
-  have_met_fit Q ys zs fit met = have_met ys zs (sounds Q ys fit) met
-
-  -- the first that failed
-  pub failed_same : (ys : List N) → failed_of (map node_of ys) ≡ lowest_failed 0 (map (λ n. fault_in (halted n)) ys)
-  failed_same ys = ap (λ l. lowest_failed 0 l) (map_twice node_of (λ n. fault_in n.halted) ys)
-
-  -- what is said of their programs
-  pub programs_turn : (P : G → Type 0) (xs ys : List N) → AllZip (Turns disk program log (λ n. fours_of (seats n)) halted) xs ys
-      → AllByRecursion (λ n. P (program n)) xs → AllByRecursion (λ n. P (program n)) ys
-  programs_turn P xs ys turns so = kept (Turns disk program log (λ n. fours_of (seats n)) halted) (λ n. P (program n)) (λ n. P (program n))
-      (λ x y it p. subst P (sym it.0) p) xs ys turns so
-
-  pub programs_meet : (P : G → Type 0) (ys zs : List N) → AllZip (Meets disk program log (λ n. fours_of (seats n)) halted (λ n. learned_by (seats n))) ys zs
-      → AllByRecursion (λ n. P (program n)) ys → AllByRecursion (λ n. P (program n)) zs
-  programs_meet P ys zs met so = kept (Meets disk program log (λ n. fours_of (seats n)) halted (λ n. learned_by (seats n))) (λ n. P (program n)) (λ n. P (program n))
-      (λ x y it p. subst P (sym it.0) p) ys zs met so
-
-  -- what they all compile
-  pub share : {V : Type 0} (value : G → V) (t : V) (xs ys : List N)
-      → AllZip (Turns disk program log (λ n. fours_of (seats n)) halted) xs ys
-      → All (λ n. value (program n) ≡ t) xs → AllByRecursion (λ n. value (program n) ≡ t) ys
-  share value t xs ys turns all = programs_turn (λ p. value p ≡ t) xs ys turns (all_of (λ n. value (program n) ≡ t) xs all)
-
-  pub share_such : {V : Type 0} (value : G → V) (t : V) (P : V → Type 0) → P t → (ys : List N)
-      → AllByRecursion (λ n. value (program n) ≡ t) ys → AllByRecursion (λ n. P (value (program n))) ys
-  share_such value t P such ys all = all_weaker (λ n. value (program n) ≡ t) (λ n. P (value (program n))) (λ n same. subst P (sym same) such) ys all
-
-  pub share_met : {V : Type 0} (value : G → V) (t : V) (ys zs : List N)
-      → AllZip (Meets disk program log (λ n. fours_of (seats n)) halted (λ n. learned_by (seats n))) ys zs
-      → AllByRecursion (λ n. value (program n) ≡ t) ys → AllByRecursion (λ n. value (program n) ≡ t) zs
-  share_met value t ys zs met all = programs_meet (λ p. value p ≡ t) ys zs met all
+    pub has_stopped : (number : ℕ) (fault : Fault) → failed_of ran ≡ Some (number, fault) → HasStopped disk pair q source given begun ran number fault
+    has_stopped number fault failed =
+        let at = failed_at 0 (map (λ (n : FarmNode D O H h). fault_in n.halted) ran) number fault failed in
+        let counted = at.1 in
+        let number_is : at.0 ≡ number = omega (arith, counted) in
+        let x = mapped (λ (n : FarmNode D O H h). fault_in n.halted) ran at.0 (Some fault) at.2 in
+        let b = zipped (NodeCameBack disk turns) begun ran at.0 x.0 turned x.1 in
+        let program : arc_value b.0.program ≡ arc_value source.translated = here (λ n. arc_value n.program ≡ arc_value source.translated) begun at.0 b.0 opened.program b.1 in
+        record {
+          first = b.0;
+          node = x.0;
+          there_first = subst (λ k. slice_get begun k ≡ Some b.0) number_is b.1;
+          there = subst (λ k. slice_get ran k ≡ Some x.0) number_is x.1;
+          stopped = x.2;
+          cause = subst (λ (p : Program FunctionData). IsStoppedFor disk p.functions b.0.log x.0.log (fours_of x.0.seats.items) x.0.halted) program
+              (b.2.2 (here (λ n. n.halted ≡ None) begun at.0 b.0 opened.going b.1));
+        }

@@ -1,6 +1,5 @@
-ghost use Rattle.std.specs.Prelude.{◌≡◌, map};
-ghost use Rattle.farm_nodes_turn_node.specs.Held.{fault_in};
-ghost use Rattle.cfarm_build_turns.specs.Nodes.{lowest_failed};
+ghost use Rattle.std.specs.Prelude.{◌≡◌};
+ghost use Rattle.cfarm_build_turns.specs.Nodes.{failed_of};
 
 use durable_model::Disk;
 use farm_nodes_turn_node::FarmNode;
@@ -11,7 +10,7 @@ use rooms_hall::Naming;
 pub(crate) fn first_failed<D: Disk, O, H: Naming>(
     nodes: &[FarmNode<D, O, H>],
 ) -> Option<(usize, Fault)>
-    ensures { result ≡ lowest_failed 0 (map (λ n. fault_in n.halted) nodes.now) }
+    ensures { result ≡ failed_of nodes.now }
 {
     for number in 0..nodes.len() {
         match nodes[number].fault() {

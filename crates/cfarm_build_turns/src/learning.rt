@@ -1,6 +1,6 @@
 //! In how many rooms a node has learned.
 
-use farm_nodes_turn_passes::NumberedSeat;
+use farm_nodes_turn_node::NumberedSeat;
 use rooms_hall::Naming;
 
 /// Whether in all four rooms of a function a value is learned.

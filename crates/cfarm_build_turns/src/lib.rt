@@ -5,8 +5,11 @@ mod failing;
 mod learning;
 mod meeting;
 mod met;
+mod resting;
 mod running;
 
 pub use cfarm_build_result::Built;
+pub use farm_nodes_turn_node::FarmNode;
 pub use met::met_all;
+pub use resting::all_at_rest;
 pub use running::run_rounds;

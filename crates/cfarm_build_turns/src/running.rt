@@ -1,7 +1,8 @@
 //! The nodes take their turns, round after round.
 
-ghost use Rattle.std.specs.Prelude.{◌<◌, length, IfOk, IfErr};
+ghost use Rattle.std.specs.Prelude.{◌<◌, length, IfErr};
 ghost use Rattle.std.specs.List.{AllByRecursion, AllZip};
+ghost use Rattle.farm_nodes_threads_teams.specs.Back.{nodes_of};
 ghost use Rattle.farm_nodes_turn_node.specs.Asked.{MayBeAsked};
 ghost use Rattle.cfarm_build_faults.specs.Nodes.{NodeCameBack};
 ghost use Rattle.cfarm_build_turns.specs.NotRun.{IsNotRun};
@@ -12,8 +13,7 @@ use cfarm_build_result::linked_functions;
 use cfarm_options::Meter;
 use durable_model::Disk;
 use farm_nodes_threads_teams::RunError;
-use farm_nodes_turn_node::FarmNode;
-use farm_nodes_turn_passes::Oracles;
+use farm_nodes_turn_node::{FarmNode, Oracles};
 use parallel_validate::OpenGate;
 use rooms_hall::Naming;
 use std::alloc::Global;
@@ -62,7 +62,7 @@ fn tell_of<D, O, H: Naming, M: Meter>(nodes: &[FarmNode<D, O, H>], meter: &mut M
     }
 }
 
-/// Each node takes so many turns at most, on a thread of its own.
+/// Each node takes so many turns at most, on a thread of its own. All come back.
 fn one_round<
     D: Disk + Drop + Send,
     O: Oracles + Drop + Send,
@@ -73,23 +73,24 @@ fn one_round<
     alloc: Global,
     nodes: Vec<FarmNode<D, O, H>>,
     turns: u64,
-) -> Result<Vec<FarmNode<D, O, H>>, BuildError>
+) -> Result<Vec<FarmNode<D, O, H>>, (Vec<FarmNode<D, O, H>>, BuildError)>
     requires some { 0 < length nodes.items }
     requires fit { AllByRecursion (MayBeAsked D.Disk) nodes.items }
-    ensures fit { IfOk result (λ after. AllByRecursion (MayBeAsked D.Disk) after.items) }
-    ensures came { IfOk result (λ after. AllZip (NodeCameBack D.Disk) nodes.items after.items) }
-    ensures refused { IfErr result IsNotRun }
+    ensures fit { AllByRecursion (MayBeAsked D.Disk) (nodes_of result).items }
+    ensures came { AllZip (NodeCameBack D.Disk turns) nodes.items (nodes_of result).items }
+    ensures refused { IfErr result (λ told. IsNotRun told.1) }
 {
     let workers = nodes.len();
     let gate = OpenGate;
     match run_threads(rt, alloc, nodes, turns, workers, &gate) {
         Ok(nodes) => Ok(nodes),
-        Err((_nodes, RunError::NoMemory)) => Err(BuildError::NoMemory),
-        Err((_nodes, RunError::NoThread)) => Err(BuildError::NoThread),
+        Err((nodes, RunError::NoMemory)) => Err((nodes, BuildError::NoMemory)),
+        Err((nodes, RunError::NoThread)) => Err((nodes, BuildError::NoThread)),
     }
 }
 
-/// The nodes, each of which has taken so many turns at most. It ends before, where none takes turns any more.
+/// The nodes, each of which has taken so many turns at most. It ends before, where none takes turns any more. All nodes come back, also where
+/// memory or a thread is refused.
 pub fn run_rounds<
     D: Disk + Drop + Send,
     O: Oracles + Drop + Send,
@@ -102,12 +103,12 @@ pub fn run_rounds<
     nodes: Vec<FarmNode<D, O, H>>,
     turns: u64,
     meter: &mut M,
-) -> Result<Vec<FarmNode<D, O, H>>, BuildError>
+) -> Result<Vec<FarmNode<D, O, H>>, (Vec<FarmNode<D, O, H>>, BuildError)>
     requires some { 0 < length nodes.items }
     requires fit { AllByRecursion (MayBeAsked D.Disk) nodes.items }
-    ensures fit { IfOk result (λ after. AllByRecursion (MayBeAsked D.Disk) after.items) }
-    ensures came { IfOk result (λ after. AllZip (NodeCameBack D.Disk) nodes.items after.items) }
-    ensures refused { IfErr result IsNotRun }
+    ensures fit { AllByRecursion (MayBeAsked D.Disk) (nodes_of result).items }
+    ensures came { AllZip (NodeCameBack D.Disk turns) nodes.items (nodes_of result).items }
+    ensures refused { IfErr result (λ told. IsNotRun told.1) }
 {
     let mut nodes = nodes;
     let mut left = turns;
@@ -116,7 +117,7 @@ pub fn run_rounds<
         let round = left.min(turns_of(&nodes));
         nodes = match one_round(rt, alloc, nodes, round) {
             Ok(nodes) => nodes,
-            Err(fault) => return Err(fault),
+            Err(told) => return Err(told),
         };
         left -= round;
         tell_of(&nodes, meter);

@@ -1,5 +1,5 @@
 -- What is known of the files that were made, or put in the place of others.
-use Rattle.std.specs.Prelude.{◌≡◌, ℕ, List, [], ◌∷◌, ◌++◌, map, Option, None, Some, Result, MatchResult}
+use Rattle.std.specs.Prelude.{◌≡◌, ◌⊎◌, ℕ, List, [], ◌∷◌, ◌++◌, map, Option, None, Some, Result, MatchResult}
 use Rattle.std.specs.List.{AllByRecursion}
 
 -- a file that was put: where, and with which bytes; or one that was made, where there was none, with no bytes
@@ -20,9 +20,13 @@ abbrev pub Places : Option (List Placed) → Option (List Placed) → List ℕ �
 Places None new path bytes = Unit {0}
 Places (Some before) new path bytes = new ≡ Some (before ++ record { path = path; bytes = Some bytes } ∷ [])
 
--- that, or where the file is refused it stays as it was
-abbrev pub PlacesOrKeeps : {T E : Type 0} → (before after : Option (List Placed)) → (path bytes : List ℕ) → Result T E → Type 0
-PlacesOrKeeps before after path bytes result = MatchResult result (λ _. Places before after path bytes) (λ _. KeepsFolder before after)
+-- the old file stands there or the new one, each whole: it stays as it was, or it grows so
+abbrev pub MayPlace : Option (List Placed) → Option (List Placed) → List ℕ → List ℕ → Type 0
+MayPlace before after path bytes = KeepsFolder before after ⊎ Places before after path bytes
+
+-- the bytes were put; or that is refused, and the old file stands there or the new one
+abbrev pub PlacesWhole : {T E : Type 0} → (before after : Option (List Placed)) → (path bytes : List ℕ) → Result T E → Type 0
+PlacesWhole before after path bytes result = MatchResult result (λ _. Places before after path bytes) (λ _. MayPlace before after path bytes)
 
 -- what is known grows by files alone that are made at such paths, if by any
 abbrev pub Makes : Option (List Placed) → Option (List Placed) → (List ℕ → Type 0) → Type 0

@@ -13,18 +13,18 @@ IsKnownAs (Some known) read = read ≡ known
 abbrev pub IsFileRead : Option (Result (List ℕ) FileFault) → Result (Vec ℕ) FileFault → Type 0
 IsFileRead known result = MatchResult result (λ bytes. IsKnownAs known (Ok bytes.items)) (λ fault. IsKnownAs known (Err fault))
 
--- where it is known whether something is there, it is so
-abbrev pub IsKnownThere : Option Bool → Bool → Type 0
-IsKnownThere None is_there = Unit {0}
-IsKnownThere (Some known) is_there = is_there ≡ known
+-- where it is known whether something is so, this is it
+abbrev pub IsKnownSo : Option Bool → Bool → Type 0
+IsKnownSo None is_so = Unit {0}
+IsKnownSo (Some known) is_so = is_so ≡ known
 
 -- nothing is there, which is known as a file that is refused
 abbrev pub IsNotThere : Option (Result (List ℕ) FileFault) → Option Bool → Type 0
-IsNotThere known there = IsKnownAs known (Err Refused) × IsKnownThere there false
+IsNotThere known there = IsKnownAs known (Err Refused) × IsKnownSo there false
 
 -- something is there, and it is refused
 abbrev pub IsRefusedThere : Option (Result (List ℕ) FileFault) → Option Bool → Type 0
-IsRefusedThere known there = IsKnownAs known (Err Refused) × IsKnownThere there true
+IsRefusedThere known there = IsKnownAs known (Err Refused) × IsKnownSo there true
 
 -- there was no memory for the file, or it is there and refused
 abbrev pub IsFaultThere : Option (Result (List ℕ) FileFault) → Option Bool → FileFault → Type 0

@@ -2,8 +2,8 @@
 
 ghost use Rattle.std.specs.Prelude.{◌≡◌, ℕ, Bool, List, Option, None, Result, IfOk};
 ghost use Rattle.cfarm_files.specs.declared.fault.FileFault.{FileFault};
-ghost use Rattle.cfarm_files.specs.Reading.{IsFileRead, IsFileReadIfThere};
-ghost use Rattle.cfarm_files.specs.Placing.{Placed, GivesNoMore, Makes, PlacesOrKeeps};
+ghost use Rattle.cfarm_files.specs.Reading.{IsFileRead, IsFileReadIfThere, IsKnownSo};
+ghost use Rattle.cfarm_files.specs.Placing.{Placed, GivesNoMore, Makes, PlacesWhole};
 ghost use Rattle.cfarm_files.specs.Locking.{CoversFolder, lock_path};
 
 use crate::fault::{DiskFault, FileFault};
@@ -23,11 +23,26 @@ pub trait Files {
     /// Whether something of a path is there, where that is known.
     ghost there: { Self → List ℕ → Option Bool } = { λ _ _. None };
 
+    /// Whether two paths lead to one file, where that is known.
+    ghost same: { Self → List ℕ → List ℕ → Option Bool } = { λ _ _ _. None };
+
+    /// Whether a file may be put at a path, where that is known: nothing is there, or a plain file.
+    ghost free: { Self → List ℕ → Option Bool } = { λ _ _. None };
+
+    /// The leave to take a lock. No call gives it back: whoever has it once takes one lock.
+    ghost may_lock: { Self → Type 0 } = { λ _. Unit {0} };
+
     /// The disks that may be given for the path of the new file and that of the old one.
     ghost may_give: { Self → List ℕ → List ℕ → Self.Disk → Type 0 } = { λ _ _ _ _. Unit {0} };
 
     /// The paths that a lock covers.
     ghost covers: { Self.Lock → List ℕ → Type 0 } = { λ _ _. Unit {0} };
+
+    /// What the file of a path is read as by whoever has the lock, where that is known.
+    ghost held: { Self.Lock → List ℕ → Option (Result (List ℕ) FileFault) } = { λ _ _. None };
+
+    /// Whether something of a path is there, as long as the lock is had, where that is known.
+    ghost held_there: { Self.Lock → List ℕ → Option Bool } = { λ _ _. None };
 
     /// What was made or put so far, in order, where that is known.
     ghost placed: { Self → Option (List Placed) } = { λ _. None };
@@ -36,14 +51,30 @@ pub trait Files {
     fn read(&self, path: &str) -> Result<Vec<u8>, FileFault>
         ensures { IsFileRead (known self.now path.now) result };
 
-    /// The same, or none where nothing of this path is there. What is there and is not read is refused, as a link to nothing is.
+    /// The same, or none where nothing of this path is there. What is there and is not read is refused, as a link to nothing is, and so is what
+    /// leads to no plain file: a pipe is not waited for, and a device not read.
     fn read_if_there(&self, path: &str) -> Result<Option<Vec<u8>>, FileFault>
         ensures { IsFileReadIfThere (known self.now path.now) (there self.now path.now) result };
 
+    /// The same of a file of a folder whose lock is held.
+    fn read_under(&self, lock: &Self::Lock, path: &str) -> Result<Option<Vec<u8>>, FileFault>
+        requires { covers lock.now path.now }
+        ensures { IsFileReadIfThere (held lock.now path.now) (held_there lock.now path.now) result };
+
+    /// Whether both paths lead to one file, by its device and number, whatever its names are. A path that leads to nothing, or to what may not
+    /// be looked at, leads to no file.
+    fn is_same(&self, path: &str, other: &str) -> bool
+        ensures { IsKnownSo (same self.now path.now other.now) result };
+
+    /// Whether a file may be put at this path: nothing is there, or a plain file. A link is neither, wherever it leads.
+    fn is_free(&self, path: &str) -> bool
+        ensures { IsKnownSo (free self.now path.now) result };
+
     /// The lock of this folder, which is that of the file of this path in it; the file is made, empty, where there is none, and
-    /// stays. Refused, and not waited for, where somebody has the lock.
+    /// stays. Refused, and not waited for, where somebody has the lock, and where the path leads to something else than a plain file.
     fn lock(&mut self, folder: &str, path: &str) -> Result<Self::Lock, FileFault>
-        requires { path.now ≡ lock_path folder.now }
+        requires leave { may_lock self.now }
+        requires path { path.now ≡ lock_path folder.now }
         ensures covers { IfOk result (λ lock. CoversFolder (covers lock) folder.now) }
         ensures made { Makes (placed self.old) (placed self.new) (λ made. made ≡ path.now) }
         ensures others { GivesNoMore (may_give self.old) (may_give self.new) };
@@ -65,13 +96,13 @@ pub trait Files {
     /// Whether the old file of a pair that was given holds a journal that counts. Nothing that is built depends on it.
     fn counts_old(&self, disk: &Self::Disk) -> bool;
 
-    /// Puts these bytes in the place of the file of this path, whole: a crash at any moment leaves the old file or the new one.
-    /// The folder's lock is held.
+    /// Puts these bytes in the place of the file of this path, whole: a crash at any moment leaves the old file or the new one, and so
+    /// does a refusal. It is refused where something else than a plain file is there. The folder's lock is held.
     fn put(&mut self, lock: &Self::Lock, path: &str, bytes: &[u8]) -> Result<(), FileFault>
         requires { covers lock.now path.now }
-        ensures { PlacesOrKeeps (placed self.old) (placed self.new) path.now bytes.now result };
+        ensures { PlacesWhole (placed self.old) (placed self.new) path.now bytes.now result };
 
     /// The same for a path that no lock has to cover: a file of the caller's own choice. Who puts there last is seen.
     fn put_at(&mut self, path: &str, bytes: &[u8]) -> Result<(), FileFault>
-        ensures { PlacesOrKeeps (placed self.old) (placed self.new) path.now bytes.now result };
+        ensures { PlacesWhole (placed self.old) (placed self.new) path.now bytes.now result };
 }

@@ -3,6 +3,7 @@
 use crate::fault::{DiskFault, FileFault};
 use crate::files::Files;
 use crate::locking::locked;
+use crate::looking::{are_same, is_free};
 use crate::placing::place;
 use durable_pair_files::{FilePair, Unopened};
 use std::fs::File;
@@ -54,13 +55,29 @@ impl Files for HostFiles<'_> {
     }
 
     fn read_if_there(&self, path: &str) -> Result<Option<Vec<u8>>, FileFault> {
-        match fs::read(self.0, path) {
-            Ok(bytes) => Ok(Some(bytes)),
+        match fs::metadata(self.0, path) {
+            Ok(found) if found.is_file() => match self.read(path) {
+                Ok(bytes) => Ok(Some(bytes)),
+                Err(fault) => Err(fault),
+            },
+            Ok(_) => Err(FileFault::Refused),
             Err(fault) if fault.kind() == ErrorKind::NotFound && is_nothing(self.0, path) => Ok(
                 None,
             ),
             Err(fault) => Err(fault_of(&fault)),
         }
+    }
+
+    fn read_under(&self, _lock: &File, path: &str) -> Result<Option<Vec<u8>>, FileFault> {
+        self.read_if_there(path)
+    }
+
+    fn is_same(&self, path: &str, other: &str) -> bool {
+        are_same(self.0, path, other)
+    }
+
+    fn is_free(&self, path: &str) -> bool {
+        is_free(self.0, path)
     }
 
     fn lock(&mut self, _folder: &str, path: &str) -> Result<File, FileFault> {

@@ -1,4 +1,4 @@
-//! The files that the program reads and writes, as a trait: one file read whole, the lock of a folder, a pair of disks over the two files of a
+//! The files that the program reads and writes, as a trait: one file read whole, the lock of a folder, what stands at a path, a pair of disks over the two files of a
 //! node's journals, and a file put in the place of another. `HostFiles` are those of the machine; a test has its own.
 #![tactic(auto)]
 
@@ -6,6 +6,7 @@ mod fault;
 mod files;
 mod host;
 mod locking;
+mod looking;
 mod placing;
 
 pub use fault::{DiskFault, FileFault};

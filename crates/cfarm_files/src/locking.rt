@@ -4,9 +4,11 @@ ghost use Rattle.std.specs.Prelude.{◌≡◌, IfOk};
 ghost use Rattle.std.specs.String.{string_bytes};
 ghost use Rattle.cfarm_files.specs.Locking.{lock_path};
 
+use crate::looking::leads_to_free;
 use std::alloc::{AllocError, Global};
 use std::fs::{File, OpenOptions};
 use std::io;
+use std::io::ErrorKind;
 use std::path::Path;
 
 /// The file that is locked while somebody has the folder.
@@ -17,9 +19,12 @@ pub fn lock_path(alloc: Global, folder: &str) -> Result<String, AllocError>
     Ok(path.into_string())
 }
 
-/// The file of this path, locked; it is made, empty, where there is none. It is opened for reading too, so that a pipe of that
-/// name is not waited for.
+/// The file of this path, locked; it is made, empty, where there is none. What is there and leads to no plain file is refused. It is opened for
+/// reading too, so that a pipe that takes its name in between is not waited for.
 pub(crate) fn locked(rt: &HostRuntime, path: &str) -> io::Result<File> {
+    if !leads_to_free(rt, path) {
+        return Err(io::Error::from(ErrorKind::AlreadyExists));
+    }
     let mut options = OpenOptions::new();
     let file = options.read(true).write(true).create(true).open(rt, path)?;
     match file.try_lock() {

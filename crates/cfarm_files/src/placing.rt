@@ -1,7 +1,8 @@
 //! A file in the place of another.
 
+use crate::looking::is_free;
 use std::fs::{File, OpenOptions};
-use std::io::Write;
+use std::io::{ErrorKind, Write};
 use std::path::Path;
 use std::{fs, io};
 
@@ -49,10 +50,14 @@ fn written_and_renamed(rt: &HostRuntime, beside: &str, path: &str, bytes: &[u8])
     done
 }
 
-/// Puts these bytes in the place of a file. They are written to a file beside it, whose name has `.new` behind, and synced; that file
-/// then gets the name, and the folder is synced. Where it is refused before that, the old file stays as it was, and the one beside is
-/// taken away. Where the folder cannot be synced the new file stands, and a crash may leave the old one.
+/// Puts these bytes in the place of a file, where nothing or a plain file is; anything else there is refused, a link too. They are
+/// written to a file beside it, whose name has `.new` behind, and synced; that file then gets the name, and the folder is synced. Where it
+/// is refused before that, the old file stays as it was, and the one beside is taken away. Where the folder cannot be synced the new file
+/// stands, and a crash may leave the old one.
 pub(crate) fn place(rt: &HostRuntime, path: &str, bytes: &[u8]) -> io::Result<()> {
+    if !is_free(rt, path) {
+        return Err(io::Error::from(ErrorKind::AlreadyExists));
+    }
     let folder = File::open(rt, folder_of(path))?;
     let beside = format!(in rt.alloc(); "{path}.new")?;
     written_and_renamed(rt, &beside, path, bytes)?;

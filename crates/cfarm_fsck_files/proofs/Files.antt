@@ -22,16 +22,16 @@ longer : {A : Type 0} (xs : List A) (x : A) → length (xs ++ x ∷ []) ≡ suc 
 longer [] x = refl
 longer (z ∷ xs) x = ap suc (longer xs x)
 
-module _ {F D L : Type 0} (over : filing.Ghosts F D L) (given : F) (folder : List ℕ) where
-  pub none_read : AreSome over given folder []
+module _ {F D L : Type 0} (over : filing.Ghosts F D L) (lock : L) (folder : List ℕ) where
+  pub none_read : AreSome over lock folder []
   none_read = record { each = λ node files e. absurd (cc e) }
 
-  pub one_more : (found : List NodeFiles) (files : NodeFiles) → AreSome over given folder found → AreOfNode over given folder (length found) files
-      → AreSome over given folder (found ++ files ∷ [])
+  pub one_more : (found : List NodeFiles) (files : NodeFiles) → AreSome over lock folder found → AreOfNode over lock folder (length found) files
+      → AreSome over lock folder (found ++ files ∷ [])
   one_more found files some is = record {
     each = λ node it e. elim (cases_eq node (length found)) [
-      | inl at ↦ subst (λ x. AreOfNode over given folder node x) (last found files it node at e)
-          (subst (λ n. AreOfNode over given folder n files) (sym at) is)
+      | inl at ↦ subst (λ x. AreOfNode over lock folder node x) (last found files it node at e)
+          (subst (λ n. AreOfNode over lock folder n files) (sym at) is)
       | inr other ↦
           let within = slice_get_within (found ++ files ∷ []) node it e in
           some.each node it (front found files it node (omega (arith, other, within, longer found files)) e)

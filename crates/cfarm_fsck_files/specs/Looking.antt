@@ -11,7 +11,7 @@ use Rattle.cfarm_build_faults.specs.Prepared.{IsSourceOf}
 use Rattle.cfarm_build_faults.specs.Statuses.{status_of}
 use Rattle.cfarm_build_faults.specs.declared.error.BuildError.{BuildError}
 use Rattle.cfarm_build_faults.specs.declared.error.BuildError.TheVariants as build
-use Rattle.cfarm_files.specs.Locking.{lock_path}
+use Rattle.cfarm_files.specs.Locking.{CoversFolder, lock_path}
 use Rattle.cfarm_files.specs.Placing.{KeepsFolder, Makes}
 use Rattle.cfarm_files.specs.declared.fault.FileFault.{FileFault}
 use Rattle.cfarm_files.specs.declared.files.Files as filing
@@ -46,17 +46,17 @@ Found q source files answer before after =
     (fsck.IsTold q source.digest (arc_value source.translated) files before after × (answer ≡ quiet))
     ⊎ ((fault : FsckError) × fsck.IsNotTold q source.digest (arc_value source.translated) files fault before after × (answer ≡ fsck_fault fault))
 
-module _ {F D L : Type 0} (over : filing.Ghosts F D L) (files : F) (folder : List ℕ) (q : Sizes) where
-  -- the files are read as they are known to be, and so it comes; or the first that is refused is told, and then nothing is printed
-  abbrev pub OfFiles : Source → Coming
-  OfFiles source answer before after =
-      ((found : List NodeFiles) × AreRead over files folder q.nodes found × Found q source found answer before after)
-      ⊎ ((fault : Unread) × HasUnread over files folder q.nodes fault × (after ≡ before) × (answer ≡ unread_fault fault))
+module _ {F D L : Type 0} (over : filing.Ghosts F D L) (folder : List ℕ) (q : Sizes) where
+  -- the files are read as this lock holds them, and so it comes; or the first that is refused is told, and then nothing is printed
+  abbrev pub OfFiles : L → Source → Coming
+  OfFiles lock source answer before after =
+      ((found : List NodeFiles) × AreRead over lock folder q.nodes found × Found q source found answer before after)
+      ⊎ ((fault : Unread) × HasUnread over lock folder q.nodes fault × (after ≡ before) × (answer ≡ unread_fault fault))
 
-  -- the folder's lock is had, and so it comes; or its file is told, and then no other is read and nothing is printed
+  -- a lock of the folder is had, and so it comes under it; or its file is told, and then no other is read and nothing is printed
   abbrev pub OfLocked : Source → Coming
   OfLocked source answer before after =
-      OfFiles source answer before after
+      ((lock : L) × CoversFolder (over.covers lock) folder × OfFiles lock source answer before after)
       ⊎ ((fault : FileFault) × (after ≡ before) × (answer ≡ unread (lock_path folder) fault))
 
 -- Over files as they were given and as they are left. A text that is refused is told as `build` tells it: nothing is made, and nothing
@@ -65,4 +65,4 @@ abbrev pub Looked : {F D L : Type 0} → filing.Ghosts F D L → (given left : F
 Looked over given left folder q text answer before after =
     ((fault : SourceFault) × IsUnprepared text fault × KeepsFolder (over.placed given) (over.placed left) × (after ≡ before) × (answer ≡ build_fault (build.Source fault)))
     ⊎ ((source : Source) × IsSourceOf text source × Makes (over.placed given) (over.placed left) (λ path. path ≡ lock_path folder)
-    × OfLocked over left folder q source answer before after)
+    × OfLocked over folder q source answer before after)

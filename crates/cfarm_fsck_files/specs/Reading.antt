@@ -8,16 +8,16 @@ use Rattle.cfarm_options.specs.Paths.{journal_path, old_journal_path}
 use Rattle.cfarm_fsck_files.specs.declared.unread.Unread.{Unread}
 use Rattle.cfarm_fsck_files.specs.declared.unread.Unread.TheVariants.{NoMemory, File}
 
--- over these files, of which it may be known what each is read as, and whether it is there
-module _ {F D L : Type 0} (over : filing.Ghosts F D L) (files : F) where
+-- by whoever has this lock, of which it may be known what each file is read as, and whether it is there
+module _ {F D L : Type 0} (over : filing.Ghosts F D L) (lock : L) where
   -- these are the bytes of the file of this path; or none is there, and they are none
   abbrev pub IsReadAs : List ℕ → List ℕ → Type 0
-  IsReadAs path bytes = IsKnownAs (over.known files path) (Ok bytes) ⊎ (IsNotThere (over.known files path) (over.there files path) × (bytes ≡ []))
+  IsReadAs path bytes = IsKnownAs (over.held lock path) (Ok bytes) ⊎ (IsNotThere (over.held lock path) (over.held_there lock path) × (bytes ≡ []))
 
   -- the file of this path is there and is refused; that memory was says nothing
   abbrev pub IsUnreadAt : List ℕ → Unread → Type 0
   IsUnreadAt path NoMemory = Unit {0}
-  IsUnreadAt path (File told) = (string_bytes told ≡ path) × IsRefusedThere (over.known files path) (over.there files path)
+  IsUnreadAt path (File told) = (string_bytes told ≡ path) × IsRefusedThere (over.held lock path) (over.held_there lock path)
 
   module _ (folder : List ℕ) where
     -- so it is of both files of this node

@@ -4,7 +4,7 @@ ghost use Rattle.std.specs.Prelude.{◌≡◌, ◌≤◌, length};
 ghost use Rattle.std.specs.Arc.{arc_value};
 ghost use Rattle.cfarm_fsck_files.specs.Looking.{Found, OfFiles, OfLocked, build_fault, fsck_fault, unread_fault};
 ghost use Rattle.cfarm_fsck_files.specs.Saying.{LookedOver, Tells};
-ghost use Rattle.cfarm_files.specs.Locking.{lock_path};
+ghost use Rattle.cfarm_files.specs.Locking.{CoversFolder, lock_path};
 ghost use Rattle.cfarm_files.specs.Placing.{Makes};
 ghost use Rattle.cfarm_program_status.specs.Telling.{IsToldAs};
 
@@ -80,7 +80,7 @@ fn tell_found<H: Naming, R: Threads + Wait + Sync, W: Write, E: ErrorLines>(
     }
 }
 
-/// Reads the files of the folder, and tells what stands in them.
+/// Reads the files of the folder under its lock, and tells what stands in them.
 fn tell_files<H: Naming, R: Threads + Wait + Sync, F: Files, W: Write, E: ErrorLines>(
     rt: &R,
     alloc: Global,
@@ -89,14 +89,16 @@ fn tell_files<H: Naming, R: Threads + Wait + Sync, F: Files, W: Write, E: ErrorL
     quorums: Quorums,
     folder: &str,
     files: &F,
+    lock: &F::Lock,
     out: &mut Paced<W>,
     err: &mut E,
 ) -> u8
+    requires locked { CoversFolder (F.covers lock.now) folder.now }
     requires functions { length (arc_value source.now.translated).functions ≤ 64 }
-    ensures does { Tells W.contents E.contents (OfFiles F.Files files.now folder.now quorums source.now) result out err }
+    ensures does { Tells W.contents E.contents (OfFiles F.Files folder.now quorums lock.now source.now) result out err }
     ensures table { result ≤ 7 }
 {
-    match read_files(alloc, folder, usize::from(quorums.nodes()), files) {
+    match read_files(alloc, folder, usize::from(quorums.nodes()), files, lock) {
         Ok(found) => tell_found(rt, alloc, hall, source, quorums, &found, out, err),
         Err(fault) => tell_unread_file(err, &fault),
     }
@@ -114,24 +116,27 @@ fn tell_locked<H: Naming, R: Threads + Wait + Sync, F: Files, W: Write, E: Error
     out: &mut Paced<W>,
     err: &mut E,
 ) -> u8
+    requires leave { F.may_lock files.now }
     requires functions { length (arc_value source.now.translated).functions ≤ 64 }
-    ensures does { Tells W.contents E.contents (OfLocked F.Files files.new folder.now quorums source.now) result out err }
+    ensures does { Tells W.contents E.contents (OfLocked F.Files folder.now quorums source.now) result out err }
     ensures made { Makes (F.placed files.old) (F.placed files.new) (λ path. path ≡ lock_path folder.now) }
     ensures table { result ≤ 7 }
 {
     let Ok(path) = lock_path(alloc, folder) else {
         return tell_no_memory(err);
     };
-    let _lock = match files.lock(folder, &path) {
+    let lock = match files.lock(folder, &path) {
         Ok(lock) => lock,
         Err(fault) => return tell_unread(err, path.as_str(), fault),
     };
-    tell_files(rt, alloc, hall, source, quorums, folder, &*files, out, err)
+    tell_files(
+        rt, alloc, hall, source, quorums, folder, &*files, &lock, out, err,
+    )
 }
 
 /// `fsck`: looks through the journals of a folder as a farm with these quorums over the program of a C text would open them, and tells what it
-/// finds, or the fault with which `build` would refuse the text or the folder. The text comes first, then the folder's lock, which is held to the
-/// end, then the files. Offers are checked again, by threads of `rt`.
+/// finds, or the fault with which `build` would refuse the text or the folder. The text comes first, then the folder's lock, which is taken once
+/// and held to the end, then the files, which are read under it. Offers are checked again, by threads of `rt`.
 pub fn look_through<H: Naming, R: Threads + Wait + Sync, F: Files, W: Write, E: ErrorLines>(
     rt: &R,
     alloc: Global,
@@ -143,6 +148,7 @@ pub fn look_through<H: Naming, R: Threads + Wait + Sync, F: Files, W: Write, E: 
     out: &mut Paced<W>,
     err: &mut E,
 ) -> u8
+    requires leave { F.may_lock files.now }
     ensures does { Tells W.contents E.contents (LookedOver F.Files files folder.now quorums text.now) result out err }
     ensures table { result ≤ 7 }
 {

@@ -27,8 +27,3 @@ takes_name text (Some name) = is_own_name name || is_of_text text name
 -- the same of what is put at a path, by the name that it ends with, in whatever folder it stands
 abbrev pub is_taken : (text path : List ℕ) → Bool
 is_taken text path = takes_name (path_file_name text) (path_file_name path)
-
--- the same of a path that may be given
-abbrev pub is_given_taken : List ℕ → Option (List ℕ) → Bool
-is_given_taken text None = false
-is_given_taken text (Some path) = is_taken text path

@@ -51,7 +51,7 @@ module _ {F H D L : Type 0} (farm : farms.Ghosts F H D L) (files : Changed F) wh
   KeepsFiles = KeepsFolder (farm.files.placed files.entry.now) (farm.files.placed files.exit.now)
 
   -- a task on the bytes of its file, with what it wrote and answers; a build alone puts a file, and `fsck`
-  -- makes that of its folder's lock, behind which it reads
+  -- makes that of its folder's lock, under which it reads
   abbrev pub Comes : Task → (path bytes : List ℕ) → Coming
   Comes (Check format) path bytes answer before after = KeepsFiles × Checked format path bytes answer before after
   Comes (Interpret depth) path bytes answer before after = KeepsFiles × Interpreted bytes depth answer before after
@@ -70,11 +70,11 @@ module _ {F H D L : Type 0} (farm : farms.Ghosts F H D L) (files : Changed F) wh
 
 -- With an output and lines for a user, who sees them or not.
 module _ {F H D L W E : Type 0} (farm : farms.Ghosts F H D L) (output : writing.Ghosts W) (errors : lines.Ghosts E) (is_seen : Bool) where
-  -- the text of the file of this path was built, or not, with nothing in the way of the bundle
+  -- the text of the file of this path was built, or not, with paths that may all be used
   abbrev pub BuiltApart : BuildOptions → (bytes : List ℕ) → ℕ → Changed F → Changed (Paced W) → Changed E → Type 0
   BuiltApart options bytes status files out err = Explains output.contents errors.contents is_seen (BuildsApart farm files options bytes) status out err
 
-  -- the same, or the bundle was refused
+  -- the same, or one of its paths may not be used
   abbrev pub Built : BuildOptions → (path bytes : List ℕ) → ℕ → Changed F → Changed (Paced W) → Changed E → Type 0
   Built options path bytes status files out err =
       Explains output.contents errors.contents is_seen (Builds farm files options path bytes) status out err

@@ -1,9 +1,8 @@
 //! The commands, with what each tells.
 
-ghost use Rattle.std.specs.Prelude.{◌≡◌, ◌≤◌, false, true, IfSome, IsNone, Some, option_copied};
+ghost use Rattle.std.specs.Prelude.{◌≤◌};
 ghost use Rattle.paxos_core_world.specs.Quorum.{AreQuorums};
 ghost use Rattle.cfarm_options.specs.Quorums.{asked_quorums, quorums_of};
-ghost use Rattle.cfarm_options.specs.Names.{is_given_taken, is_taken};
 ghost use Rattle.cfarm_program.specs.Met.{AreMet};
 ghost use Rattle.cfarm_program.specs.Performed.{Built, BuiltApart, Does, Looks};
 
@@ -11,17 +10,18 @@ use cfarm_build::{Farm, Host, build_text, of_build};
 use cfarm_command_line_others::{FsckOptions, Task};
 use cfarm_files::{FileFault, Files};
 use cfarm_fsck_files::look_through;
-use cfarm_options::{BuildOptions, Meter, is_taken};
+use cfarm_options::{BuildOptions, Meter};
 use cfarm_output::{ErrorLines, Paced};
+use cfarm_own_files::barred;
 use cfarm_program_looks::{emit_form, judge_offer, list_records, show_text, verify_files};
 use cfarm_program_runs::{check, lay_out, play, run_bytes, run_text};
-use cfarm_program_status::{tell_among, tell_unread};
+use cfarm_program_status::{tell_among, tell_no_memory, tell_unread};
 use rooms_hall::Naming;
 use std::io::Write;
 use std::sync::Wait;
 use std::thread::Threads;
 
-/// Builds the text of the file of this path; no bundle is put in the place of a file of the build's.
+/// Builds the text of the file of this path, with paths that may all be used.
 #[tactic(auto, using(crate::proofs::Tables::building_in_table))]
 fn build_apart<
     H: Naming + Send,
@@ -41,6 +41,7 @@ fn build_apart<
     out: &mut Paced<W>,
     err: &mut E,
 ) -> u8
+    requires leave { F.may_lock files.now }
     requires met { AreQuorums (quorums_of options) }
     ensures does { BuiltApart ⟦<F as Farm<H>>⟧ W.Write E.ErrorLines is_seen options.entry text.now result files out err }
     ensures table { result ≤ 7 }
@@ -48,7 +49,8 @@ fn build_apart<
     let Some(quorums) = options.quorums() else {
         unreachable!();
     };
-    match build_text(host, text, options, quorums, files, meter, out) {
+    let (done, _back) = build_text(host, text, options, quorums, files, meter, out);
+    match done {
         Ok(()) => 0,
         Err(fault) => {
             let status = fault.status();
@@ -58,25 +60,8 @@ fn build_apart<
     }
 }
 
-/// The path of the bundle, where a file of the build of the text of this path may stand.
-fn taken_bundle<'a>(path: &str, options: BuildOptions<'a>) -> Option<&'a str>
-    ensures some { IfSome result (λ bundle. option_copied options.entry.bundle ≡ Some bundle.now) }
-    ensures taken { IfSome result (λ bundle. is_taken path.now bundle.now ≡ true) }
-    ensures none { IsNone result → is_given_taken path.now (option_copied options.entry.bundle) ≡ false }
-{
-    match options.bundle {
-        Some(bundle) => {
-            if is_taken(path, bundle) {
-                Some(bundle)
-            } else {
-                None
-            }
-        }
-        None => None,
-    }
-}
-
-/// The same, or tells that the bundle is to be put in the place of such a file.
+/// The same, or tells the first of its paths that it may not use: one that leads to a file of the build's, or at which the bundle or the program
+/// would take the place of what is kept.
 fn build<H: Naming + Send, R: Threads + Wait + Sync, F: Files, M: Meter, W: Write, E: ErrorLines>(
     host: &Host<'_, H, R>,
     is_seen: bool,
@@ -88,13 +73,15 @@ fn build<H: Naming + Send, R: Threads + Wait + Sync, F: Files, M: Meter, W: Writ
     out: &mut Paced<W>,
     err: &mut E,
 ) -> u8
+    requires leave { F.may_lock files.now }
     requires met { AreQuorums (quorums_of asked) }
     ensures does { Built ⟦<F as Farm<H>>⟧ W.Write E.ErrorLines is_seen asked.entry path.now text.now result files out err }
     ensures table { result ≤ 7 }
 {
-    match taken_bundle(path, asked) {
-        Some(bundle) => tell_unread(err, bundle, FileFault::Refused),
-        None => build_apart(host, is_seen, asked, path, text, files, meter, out, err),
+    match barred(host.alloc, &*files, path, asked) {
+        Ok(None) => build_apart(host, is_seen, asked, path, text, files, meter, out, err),
+        Ok(Some(at)) => tell_unread(err, at.as_str(), FileFault::Refused),
+        Err(_) => tell_no_memory(err),
     }
 }
 
@@ -106,6 +93,7 @@ fn look<H: Naming, R: Threads + Wait + Sync, F: Files, W: Write, E: ErrorLines>(
     out: &mut Paced<W>,
     err: &mut E,
 ) -> u8
+    requires leave { F.may_lock files.now }
     requires met { AreQuorums (asked_quorums options.sizes) }
     ensures does { Looks F.Files W.Write E.ErrorLines options.entry text.now result files out err }
     ensures table { result ≤ 7 }
@@ -146,6 +134,7 @@ pub(crate) fn perform<
     out: &mut Paced<W>,
     err: &mut E,
 ) -> u8
+    requires leave { F.may_lock files.now }
     requires met { AreMet task }
     ensures does { Does ⟦<F as Farm<H>>⟧ W.Write E.ErrorLines is_seen task.entry path.now bytes.now result files out err }
     ensures table { result ≤ 7 }

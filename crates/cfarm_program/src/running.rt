@@ -56,6 +56,7 @@ fn read_and_perform<
     out: &mut Paced<W>,
     err: &mut E,
 ) -> u8
+    requires leave { F.may_lock files.now }
     requires met { AreMet task }
     ensures does { Reads ⟦<F as Farm<H>>⟧ W.Write E.ErrorLines is_seen task.entry path.now result files out err }
     ensures table { result ≤ 7 }
@@ -85,6 +86,7 @@ pub(crate) fn run_task<
     out: &mut Paced<W>,
     err: &mut E,
 ) -> u8
+    requires leave { F.may_lock files.now }
     ensures does { RunsTask ⟦<F as Farm<H>>⟧ W.Write E.ErrorLines is_seen task.entry path.now result files out err }
     ensures table { result ≤ 7 }
 {

@@ -1,4 +1,4 @@
 mod Fit
 mod One
-pub use Rattle.farm_nodes_threads.proofs.Coming
+pub use Rattle.farm_nodes_threads.proofs.Turning
 pub use Rattle.farm_nodes_threads.proofs.Sent

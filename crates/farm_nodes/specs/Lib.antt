@@ -13,5 +13,7 @@ pub use Rattle.farm_nodes_link.specs.LinkError
 pub use Rattle.farm_nodes_source.specs.Told
 pub use Rattle.farm_nodes_source.specs.declared.fault.SourceFault
 pub use Rattle.farm_nodes_link.specs.Asked
-pub use Rattle.farm_nodes_threads.specs.CameBack
+pub use Rattle.farm_nodes_threads.specs.After
 pub use Rattle.farm_nodes_threads.specs.Nodes
+pub use Rattle.farm_nodes_threads.specs.OneTurn
+pub use Rattle.farm_nodes_threads.specs.Stopped

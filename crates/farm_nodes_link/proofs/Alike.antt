@@ -12,6 +12,7 @@ use Rattle.farm_nodes_meet_seats.specs.Held.{held_of}
 use Rattle.farm_nodes_link.specs.Alike.{HaveCounted, HaveCountedAll, KeepsLearned, LinkOne}
 use Rattle.farm_nodes_link.specs.Learned.{FourOffers, all_four, learned_four, learned_by, IsUndecided}
 use Rattle.farm_nodes_link.specs.Offered.{linked_offers}
+use Rattle.farm_nodes_link.proofs.Going.{go_nowhere}
 
 one_item : {S : Type 0} (o : Option S) (x y : S) → o ≡ Some x → o ≡ Some y → x ≡ y
 one_item o x y e e' = cc
@@ -96,6 +97,8 @@ module _ {H : Type 0} {h : naming.Ghosts H} (xs ys : List (NumberedSeat H h)) wh
     first = xs;
     second = ys;
     counted = counted;
+    first_on = go_nowhere xs;
+    second_on = go_nowhere ys;
     first_keeps = keeps_none (learned_by xs);
     second_keeps = keeps_none (learned_by ys);
   }

@@ -7,6 +7,7 @@ use Rattle.linear_language.specs.Function as linear
 use Rattle.farm_nodes_meet_seats.specs.NumberedSeat.{NumberedSeat}
 use Rattle.farm_nodes_meet_seats.specs.Held.{held_of}
 use Rattle.farm_nodes_meet_seats.specs.Lists.{HaveMetAll}
+use Rattle.farm_nodes_link.specs.Going.{SeatsGoOn}
 use Rattle.farm_nodes_link.specs.Learned.{FourOffers, learned_by, IsUndecided}
 use Rattle.farm_nodes_link.specs.Offered.{linked_offers}
 
@@ -23,11 +24,14 @@ module _ {H : Type 0} {h : naming.Ghosts H} where
     pub alike : length first ≡ length second
     pub met : HaveMetAll first second xs ys (length first) held_of
 
-  -- they met, and all functions were counted; what each had learned then it has still
+  -- They met, and all functions were counted, so that in each room they are of one; today's seats go on from those, and what each had learned
+  -- then it has still.
   pub record HaveCounted (xs ys : List (NumberedSeat H h)) : Type 0 where
     pub first : List (NumberedSeat H h)
     pub second : List (NumberedSeat H h)
     pub counted : HaveCountedAll first second
+    pub first_on : SeatsGoOn first xs
+    pub second_on : SeatsGoOn second ys
     pub first_keeps : KeepsLearned (learned_by first) (learned_by xs)
     pub second_keeps : KeepsLearned (learned_by second) (learned_by ys)
 

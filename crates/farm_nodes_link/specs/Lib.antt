@@ -4,6 +4,7 @@ pub mod Offered
 pub mod Refused
 pub mod Translated
 pub mod Alike
+pub mod Going
 pub mod Linking
 pub use Rattle.farm_nodes_turn_node.specs.declared.halted.Halted
 pub use Rattle.farm_nodes_turn_node.specs.Asked

@@ -1,6 +1,5 @@
 -- What turns leave of a node: none, one, and one after another.
-use Rattle.std.proofs.Common.{◌≡◌, ◌≢◌, ℕ, zero, suc, ◌<◌, Bool, true, false, eqb, List, [], ◌∷◌, ◌++◌, length, map, slice_get, Option, Some, None, refl, sym, ap, ◌∙◌, subst, subst₂, arith, append_assoc, append-nil}
-use Rattle.std.specs.List.{AllByRecursion, AllZip}
+use Rattle.std.proofs.Common.{◌≡◌, ◌≢◌, ℕ, zero, suc, ◌<◌, Bool, true, false, eqb, List, [], ◌++◌, length, map, slice_get, Option, Some, None, refl, sym, ap, ◌∙◌, subst, subst₂, arith, append_assoc, append-nil}
 use Rattle.std.proofs.lemmas.Bool.{eqb-true, eq-eqb}
 use Rattle.std.proofs.lemmas.Option.{slice_get_within}
 use Rattle.durable_model.specs.Moments.{started, composed}
@@ -29,8 +28,6 @@ use Rattle.farm_nodes_turn_node.proofs.Places.{found, mapped}
 use Rattle.farm_nodes_turn_node.specs.declared.halted.Halted.{Halted}
 use Rattle.farm_nodes_turn_node.specs.Held.{IsSoundBy, IsJournalOf, pending_in}
 use Rattle.farm_nodes_turn_node.specs.Stood.{TurnsBy}
-use Rattle.farm_nodes_threads_pace.specs.After.{After}
-use Rattle.farm_nodes_threads_teams.specs.Taken.{HasTaken}
 use Rattle.farm_nodes_threads.specs.CameBack.{Keep, CameBackBy}
 
 -- a seat
@@ -127,7 +124,7 @@ wider h g low high low2 high2 c same p q b = record {
 }
 
 -- whether it is stopped
-by_halt : {P : Type 0} (h : Option Halted) → (h ≡ None → P) → (h ≢ None → P) → P
+pub by_halt : {P : Type 0} (h : Option Halted) → (h ≡ None → P) → (h ≢ None → P) → P
 by_halt None none some = none refl
 by_halt (Some h) none some = some (λ (e : Some h ≡ None). absurd (cc))
 
@@ -254,50 +251,3 @@ keeps_at f functions room old new low leaves s t e g =
     let y = mapped f new (function_of room) t g in
     let it = leaves named.0 named.1 x.0 y.0 x.1 y.1 in
     subst₂ (λ a b. Keep a b) x.2 y.2 (keep_by (pass_of room) (f x.0) (f y.0) it.stays it.others)
-
--- A node is seen as its program, its journal, its seats and what stopped it.
-module _ {N G D T1 T2 T3 T4 : Type 0} (texts : Texts T1 T2 T3 T4) (is_honest : D → Type 0) (seen : D → List ℕ) (may_leave : D → List ℕ → Type 0)
-    (moment : D → ℕ) (left_since : D → ℕ → List ℕ → Type 0) (program : N → G) (log : N → Log D)
-    (fours : N → List (Four T1 T2 T3 T4)) (halted : N → Option Halted)
-    (now : (d : D) → is_honest d → (c : List ℕ) → left_since d (moment d) c → may_leave d c) where
-  abbrev pub Turned : N → N → Type 0
-  Turned x y = (program y ≡ program x)
-      × CameBackBy texts is_honest seen may_leave moment left_since (log x) (log y) (fours x) (fours y) (halted x) (halted y)
-
-  pub after_many : (n : ℕ) (x y : N) → IsSoundBy texts is_honest seen may_leave (log x) (fours x) (halted x) → After Turned n x y → Turned x y
-  after_many zero x y sound same = subst (λ z. Turned x z) (sym same)
-      (refl, came_none texts is_honest seen may_leave moment left_since (log x) (fours x) (halted x) (now (log x).disk) sound)
-  after_many (suc n) x y sound turns =
-      let before = after_many n x turns.0 sound turns.1 in
-      let last : Turned turns.0 y = turns.2 in (
-        last.0 ∙ before.0,
-        came_through texts is_honest seen may_leave moment left_since (log x) (log turns.0) (log y) (fours x) (fours turns.0) (fours y)
-            (halted x) (halted turns.0) (halted y) before.1 last.1,
-      )
-
-  -- of all nodes, each of which is sound and waits for what it is stopped at
-  module _ (waiting : N → Type 0) (most : ℕ) where
-    abbrev pub Fit : N → Type 0
-    Fit x = IsSoundBy texts is_honest seen may_leave (log x) (fours x) (halted x) × waiting x
-
-    pub all_stay : (xs : List N) → AllByRecursion Fit xs → AllZip Turned xs xs
-    all_stay [] fit = tt
-    all_stay (x ∷ xs) fit = (after_many zero x x fit.0.0 refl, all_stay xs fit.1)
-
-    pub all_long : (xs ys : List N) → AllZip (HasTaken Turned Fit most) xs ys → length ys ≡ length xs
-    all_long [] [] z = refl
-    all_long [] (y ∷ ys) z = absurd z
-    all_long (x ∷ xs) [] z = absurd z
-    all_long (x ∷ xs) (y ∷ ys) z = ap suc (all_long xs ys z.1)
-
-    pub all_fit : (xs ys : List N) → AllByRecursion Fit xs → AllZip (HasTaken Turned Fit most) xs ys → AllByRecursion Fit ys
-    all_fit [] [] fit z = tt
-    all_fit [] (y ∷ ys) fit z = absurd z
-    all_fit (x ∷ xs) [] fit z = absurd z
-    all_fit (x ∷ xs) (y ∷ ys) fit z = (z.0.fit fit.0, all_fit xs ys fit.1 z.1)
-
-    pub all_came : (xs ys : List N) → AllByRecursion Fit xs → AllZip (HasTaken Turned Fit most) xs ys → AllZip Turned xs ys
-    all_came [] [] fit z = tt
-    all_came [] (y ∷ ys) fit z = absurd z
-    all_came (x ∷ xs) [] fit z = absurd z
-    all_came (x ∷ xs) (y ∷ ys) fit z = (after_many z.0.taken x y fit.0.0 z.0.after, all_came xs ys fit.1 z.1)

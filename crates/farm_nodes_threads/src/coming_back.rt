@@ -36,8 +36,9 @@ pub fn run_threads<
     requires fit { AllByRecursion (MayBeAsked D.Disk) nodes.items }
     ensures fit { AllByRecursion (MayBeAsked D.Disk) (nodes_of result).items }
 
-    // As many in their order: of the same program, in the same rooms, and each with what its turns recorded.
-    ensures came { AllZip (NodeCameBack D.Disk) nodes.items (nodes_of result).items }
+    // As many in their order: of the same program, in the same rooms, and each with what its turns recorded, which are so many at most. Where
+    // a turn stopped a node there is a cause.
+    ensures came { AllZip (NodeCameBack D.Disk turns) nodes.items (nodes_of result).items }
     ensures same { IfErr result (λ told. told.1 ≡ RunError.NoMemory → told.0.items ≡ nodes.items) }
 {
     let Some((spare, home)) = two_spares(alloc, nodes.len()) else {

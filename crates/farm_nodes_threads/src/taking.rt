@@ -33,21 +33,16 @@ fn outcome_of(turn: Turn) -> Outcome {
 }
 
 impl<D: Disk + Drop, O: Oracles + Drop, H: Naming> TakesTurns for Taking<FarmNode<D, O, H>> {
-    ghost use Rattle.std.specs.Prelude.{◌≡◌, ◌<◌, ◌/◌, length};
+    ghost use Rattle.std.specs.Prelude.{◌<◌, length};
+    ghost use Rattle.farm_nodes_turn_node.specs.Asked.{MayBeAsked};
     ghost use Rattle.farm_nodes_turn_node.specs.Numbers.{function_of};
-    ghost use Rattle.farm_nodes_turn_node.specs.Fours.{fours_of};
-    ghost use Rattle.farm_nodes_turn_node.specs.Held.{IsSoundNode};
-    ghost use Rattle.farm_nodes_turn_node.specs.Waiting.{IsWaiting};
-    ghost use Rattle.farm_nodes_threads.specs.CameBack.{CameBack};
+    ghost use Rattle.farm_nodes_threads.specs.OneTurn.{TakesTurn};
 
-    ghost is_fit = { λ t. IsSoundNode D.is_honest D.seen D.may_leave t.node.log
-        (fours_of t.node.seats.items) t.node.halted × IsWaiting t.node.seats.items t.node.halted };
+    ghost is_fit = { λ t. MayBeAsked D.Disk t.node };
 
     ghost has_room = { λ t room. function_of room < length t.node.seats.items };
 
-    ghost turned = { λ t u. (u.node.program ≡ t.node.program)
-        × CameBack D.is_honest D.seen D.may_leave D.moment D.left_since t.node.log u.node.log
-        (fours_of t.node.seats.items) (fours_of u.node.seats.items) t.node.halted u.node.halted };
+    ghost turned = { λ t u. TakesTurn D.Disk t.node u.node };
 
     fn rooms(&self) -> u32 {
         rooms_of(self.node.seats.len())

@@ -145,6 +145,23 @@ fn put_of(alloc: Global, path: &str, bytes: &[u8]) -> Option<Put> {
     Some(Put { path, bytes })
 }
 
+/// The file that a path leads to: `twin` is another name of a journal, and two are other names of the text.
+fn leads_to(path: &str) -> &str {
+    match path {
+        "twin" => "d/node1.cf2",
+        "other" | "c.new" => "f",
+        _ => path,
+    }
+}
+
+/// A copy of the text.
+fn text_of(alloc: Global, text: &[u8]) -> Result<Vec<u8>, FileFault> {
+    match text.to_vec(alloc) {
+        Ok(bytes) => Ok(bytes),
+        Err(_) => Err(FileFault::NoMemory),
+    }
+}
+
 /// The lock of a folder in memory.
 #[derive(Drop)]
 pub struct Held;
@@ -164,9 +181,10 @@ impl Files for Given<'_> {
 
     fn read(&self, path: &str) -> Result<Vec<u8>, FileFault> {
         match path {
-            "f" => match self.text.to_vec(self.alloc) {
+            "f" => text_of(self.alloc, self.text),
+            "twin" => match self.put_as(path) {
                 Ok(bytes) => Ok(bytes),
-                Err(_) => Err(FileFault::NoMemory),
+                Err(_) => text_of(self.alloc, self.text),
             },
             "big" => Err(FileFault::NoMemory),
             _ => self.put_as(path),
@@ -176,6 +194,18 @@ impl Files for Given<'_> {
     fn read_if_there(&self, path: &str) -> Result<Option<Vec<u8>>, FileFault> {
         let (folder, name) = path.rsplit_once('/').unwrap_or(("", path));
         file_in(self.alloc, folder, name)
+    }
+
+    fn read_under(&self, _lock: &Held, path: &str) -> Result<Option<Vec<u8>>, FileFault> {
+        self.read_if_there(path)
+    }
+
+    fn is_same(&self, path: &str, other: &str) -> bool {
+        leads_to(path) == leads_to(other)
+    }
+
+    fn is_free(&self, path: &str) -> bool {
+        !path.starts_with("pipe/")
     }
 
     fn disk(&mut self, _lock: &Held, path: &str, _old_path: &str) -> Result<MemoryPair, DiskFault> {

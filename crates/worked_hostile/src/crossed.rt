@@ -123,7 +123,7 @@ fn build_told<H: Naming + Send, R: Threads + Wait + Sync>(
         alloc,
         hall,
     };
-    let made = build(
+    let (made, _back) = build(
         &host, source, disks, oracles, TURNS, 1, quorums, false, &mut Quiet,
     );
     match made {

@@ -24,7 +24,8 @@
 //! Journals are disks in memory, which are empty in most folders, and files for `fsck`. The folder `missing` has none, `behind` not the new one of node 1, and `barred`
 //! not its old one; there is no memory for those in `scarce`. They fail at the first call in `broken`, and after the fourteenth in `worn`. In a folder
 //! whose name is `%` and hex digits each old one holds these bytes; behind `&` stand those of each new one; a number and `=` in front mean the disks of
-//! that node alone. No file can be put in `full`, and for one in `tight` there is no memory.
+//! that node alone. No file can be put in `full`, and for one in `tight` there is no memory. In `pipe` no path is a plain file's. `twin` is another
+//! name of `d/node1.cf2` and holds the text, `other` and `c.new` are other names of `f`.
 
 mod bundled;
 mod failing;

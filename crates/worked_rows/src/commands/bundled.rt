@@ -31,7 +31,9 @@ pub fn verified<H: Naming + Send, R: Threads + Wait + Sync, F: Files>(
     program: &str,
     bundle: &str,
     bytes: &[u8],
-) -> Option<String> {
+) -> Option<String>
+    requires { F.may_lock files.now }
+{
     let alloc = here.alloc;
     let line = format!(in alloc; "verify {text} --program {program} --bundle {bundle}").ok()?;
     let words = words_of(alloc, line.as_str())?;

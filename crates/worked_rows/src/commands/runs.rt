@@ -48,7 +48,9 @@ pub fn run_over<H: Naming + Send, R: Threads + Wait + Sync, F: Files>(
     files: &mut F,
     out: Held,
     err: Held,
-) -> Ran {
+) -> Ran
+    requires { F.may_lock files.now }
+{
     let mut quiet = Quiet {
         told: 0,
         cleared: 0,

@@ -1,101 +1,61 @@
 -- From the farm that opened to what it has linked.
-use Rattle.std.proofs.Common.{◌≡◌, ◌≤◌, ◌<◌, length, sym, ap, subst, ◌∙◌, arith}
+use Rattle.std.proofs.Common.{◌≡◌, ◌≤◌, length, sym, ap, subst, arith, inl, refl}
 use Rattle.std.proofs.lemmas.List.{length-map}
 use Rattle.std.specs.Arc.{arc_value}
-use Rattle.std.specs.List.{AllByRecursion, AllZip}
-use Rattle.cfarm_build_turns.specs.Alike.{HaveCounted}
-use Rattle.cfarm_build_offers.specs.Fours.{fours_of}
-use Rattle.cfarm_build_turns.specs.Learned.{learned_by}
 use Rattle.farm_nodes_source.specs.declared.source.Source.{Source}
-use Rattle.cfarm_build_turns.specs.Neighbours.{EachTwo}
-use Rattle.cfarm_build_turns.proofs.Zips.{as_long}
-use Rattle.cfarm_build_turns.specs.Nodes.{HasFewFunctions, Meets}
-use Rattle.cfarm_build_turns.proofs.Turning.{Turns, failed_same, have_met_fit, ran, share, share_met, share_such}
-use Rattle.cfarm_build.proofs.Made.{built_so, refused_so}
-use Rattle.cfarm_build.proofs.Unbuilt.{not_run}
-use Rattle.cfarm_build.proofs.Unmet.{unmet}
+use Rattle.cfarm_build_turns.proofs.Zips.{all_of, as_long}
+use Rattle.cfarm_build_turns.specs.CameBackNodes.{NodeCameBack}
+use Rattle.cfarm_build_turns.specs.Nodes.{NodeStays}
+use Rattle.cfarm_build.specs.Gone.{HaveGone}
+use Rattle.cfarm_build.proofs.Made.{built_so, opened_so, unbuilt_so}
 use Rattle.cfarm_build.proofs.building.build.Goals as goal
 
-pub run_rounds-requires-clause-some : goal.run_rounds-requires-clause-some
-run_rounds-requires-clause-some g c κs within =
-    omega (arith, c.nodes-nodes.ensures.sizes.least, c.requires.size, c.requires.oracles, ap length c.in-Ok.ensures.oracles, length-map c.in-Ok.farm.nodes.items (λ n. n.oracles))
+pub returns-in_default-clause-refused : goal.returns-in_default-clause-refused
+returns-in_default-clause-refused g c = inl refl
 
-pub returns-in-Err-run_rounds-clause-refused : goal.returns-in-Err-run_rounds-clause-refused
-returns-in-Err-run_rounds-clause-refused g c =
-    not_run g.D.Disk g.D.Pair g.H.Naming c.args.quorums c.args.seed c.args.source c.args.disks.items c.in-Err-run_rounds.fault
-    c.in-Err-run_rounds.ensures.refused
+pub gone-made-requires-clause-some : goal.gone-made-requires-clause-some
+gone-made-requires-clause-some g c =
+    omega (arith, c.nodes-nodes.ensures.sizes.least, c.requires.size, c.requires.oracles, ap length c.in-Ok-over.ensures.oracles, length-map c.in-Ok-over.farm.nodes.items (λ n. n.oracles))
 
-pub met_all-requires : goal.met_all-requires
-met_all-requires g c = record {
-  few = share_such g.D.Disk (λ n. n.program) (λ n. n.log) (λ n. n.seats.items) (λ n. n.draws) (λ n. n.halted) arc_value
-      (arc_value c.in-Ok.farm.source.translated) HasFewFunctions
-      (subst (λ (s : Source). length (arc_value s.translated).functions ≤ 64) (sym c.in-Ok.ensures.source) c.requires.count)
-      c.in-Ok-run_rounds.nodes.items (share g.D.Disk (λ n. n.program) (λ n. n.log) (λ n. n.seats.items) (λ n. n.draws) (λ n. n.halted) arc_value
-      (arc_value c.in-Ok.farm.source.translated) c.in-Ok.farm.nodes.items c.in-Ok-run_rounds.nodes.items c.in-Ok-run_rounds.ensures.came
-      c.in-Ok.ensures.program);
-}
+pub gone-made-requires-clause-count : goal.gone-made-requires-clause-count
+gone-made-requires-clause-count g c κs within = subst (λ (s : Source). length (arc_value s.translated).functions ≤ 64) (sym c.in-Ok-over.ensures.source) c.requires.count
 
-pub returns-in-Err-met_all-clause-refused : goal.returns-in-Err-met_all-clause-refused
-returns-in-Err-met_all-clause-refused g c =
-    let ran_there = ran g.D.Disk (λ n. n.program) (λ n. n.log) (λ n. n.seats.items) (λ n. n.draws) (λ n. n.halted) g.D.Pair _ c.args.quorums c.args.seed c.args.source
-    c.in-Ok.farm.source c.args.disks.items c.in-Ok.farm.nodes.items c.in-Ok-run_rounds.nodes.items c.in-Ok.ensures.source
-    c.in-Ok.ensures.journals c.in-Ok.ensures.rooms c.in-Ok.ensures.draws c.in-Ok.ensures.going c.in-Ok-run_rounds.ensures.came
-    c.in-Ok-run_rounds.ensures.fit in
-    unmet g.D.Disk (λ n. n.program) (λ n. n.log) (λ n. n.seats.items) (λ n. n.draws) (λ n. n.halted) g.D.Pair c.args.quorums c.args.seed c.args.source
-    c.args.disks.items c.in-Ok-run_rounds.nodes.items _ c.in-Ok-run_rounds.ensures.fit ran_there c.in-Err-met_all.fault c.in-Err-met_all.ensures.refused
+pub gone-made-requires-clause-program : goal.gone-made-requires-clause-program
+gone-made-requires-clause-program g c κs within =
+    all_of (λ n. arc_value n.program ≡ arc_value c.in-Ok-over.farm.source.translated) c.in-Ok-over.farm.nodes.items c.in-Ok-over.ensures.program
 
-pub built_by-requires-clause-counted : goal.built_by-requires-clause-counted
-built_by-requires-clause-counted g c =
-    subst (λ l. EachTwo (λ n m. HaveCounted n.seats.items m.seats.items) l) (sym c.deref.ensures.value) c.in-Ok-met_all.ensures.counted
-
-pub built_by-requires-clause-count : goal.built_by-requires-clause-count
-built_by-requires-clause-count g c = subst (λ (s : Source). length (arc_value s.translated).functions ≤ 64) (sym c.in-Ok.ensures.source) c.requires.count
-
-pub built_by-requires-clause-some : goal.built_by-requires-clause-some
-built_by-requires-clause-some g c =
-    let first : 0 < length c.in-Ok.farm.nodes.items =
-    omega (arith, c.nodes-nodes.ensures.sizes.least, c.requires.size, c.requires.oracles, ap length c.in-Ok.ensures.oracles, length-map c.in-Ok.farm.nodes.items (λ n. n.oracles)) in
+-- there is room for the nodes at rest
+pub all_at_rest-requires-clause-capacity : goal.all_at_rest-requires-clause-capacity
+all_at_rest-requires-clause-capacity g c =
+    let gone = c.gone-made.ensures.gone in
+    let nodes = c.in-Ok-over.farm.nodes.items in
     omega (
       arith,
-      first,
-      as_long (Turns g.D.Disk (λ n. n.program) (λ n. n.log) (λ n. fours_of n.seats.items) (λ n. n.halted))
-          c.in-Ok.farm.nodes.items c.in-Ok-run_rounds.nodes.items c.in-Ok-run_rounds.ensures.came,
-      as_long (Meets g.D.Disk (λ n. n.program) (λ n. n.log) (λ n. fours_of n.seats.items) (λ n. n.halted) (λ n. learned_by n.seats.items))
-          c.in-Ok-run_rounds.nodes.items c.in-Ok-met_all.nodes.items c.in-Ok-met_all.ensures.stay,
-      ap (λ l. length l) c.deref.ensures.value,
+      c.in-Ok.ensures.capacity,
+      c.len.ensures,
+      c.args.disks.ok.0,
+      c.gone-made.result.1.ok.0,
+      as_long (NodeStays g.D.Disk) gone.ran c.gone-made.result.1.items gone.met,
+      as_long (NodeCameBack g.D.Disk c.args.turns) nodes gone.ran gone.turned,
+      c.requires.oracles,
+      ap length c.in-Ok-over.ensures.oracles,
+      length-map nodes (λ n. n.oracles),
     )
-
-pub built_by-requires-clause-program : goal.built_by-requires-clause-program
-built_by-requires-clause-program g c =
-    subst (λ l. AllByRecursion (λ n. arc_value n.program ≡ arc_value c.in-Ok.farm.source.translated) l) (sym c.deref.ensures.value)
-    (share_met g.D.Disk (λ n. n.program) (λ n. n.log) (λ n. n.seats.items) (λ n. n.draws) (λ n. n.halted) arc_value
-    (arc_value c.in-Ok.farm.source.translated) c.in-Ok-run_rounds.nodes.items c.in-Ok-met_all.nodes.items c.in-Ok-met_all.ensures.stay
-    (share g.D.Disk (λ n. n.program) (λ n. n.log) (λ n. n.seats.items) (λ n. n.draws) (λ n. n.halted) arc_value
-    (arc_value c.in-Ok.farm.source.translated) c.in-Ok.farm.nodes.items c.in-Ok-run_rounds.nodes.items c.in-Ok-run_rounds.ensures.came
-    c.in-Ok.ensures.program))
 
 pub returns-clause-built : goal.returns-clause-built
 returns-clause-built g c =
-    let ran_there = ran g.D.Disk (λ n. n.program) (λ n. n.log) (λ n. n.seats.items) (λ n. n.draws) (λ n. n.halted) g.D.Pair _ c.args.quorums c.args.seed c.args.source
-    c.in-Ok.farm.source c.args.disks.items c.in-Ok.farm.nodes.items c.in-Ok-run_rounds.nodes.items c.in-Ok.ensures.source
-    c.in-Ok.ensures.journals c.in-Ok.ensures.rooms c.in-Ok.ensures.draws c.in-Ok.ensures.going c.in-Ok-run_rounds.ensures.came
-    c.in-Ok-run_rounds.ensures.fit in
-    let met = subst (λ l. AllZip (Meets g.D.Disk (λ n. n.program) (λ n. n.log) (λ n. fours_of n.seats.items) (λ n. n.halted) (λ n. learned_by n.seats.items)) c.in-Ok-run_rounds.nodes.items l)
-    (sym c.deref.ensures.value) c.in-Ok-met_all.ensures.stay in
-    built_so g.D.Disk g.D.Pair g.H.Naming c.args.quorums c.args.seed c.args.source c.in-Ok.farm.source c.args.disks.items c.in-Ok.ensures.source _ _ ran_there
-    (failed_same g.D.Disk (λ n. n.program) (λ n. n.log) (λ n. n.seats.items) (λ n. n.draws) (λ n. n.halted) c.in-Ok-run_rounds.nodes.items ∙ c.in-Ok-met_all.ensures.going)
-    (have_met_fit g.D.Disk (λ n. n.program) (λ n. n.log) (λ n. n.seats.items) (λ n. n.draws) (λ n. n.halted) _
-    c.in-Ok-run_rounds.nodes.items c.deref.result.now c.in-Ok-run_rounds.ensures.fit met) c.built_by.result c.built_by.ensures.built
+    let on = c.in-Ok-over.ensures in
+    let farm = c.in-Ok-over.farm in
+    built_so g.D.Disk g.D.Pair c.args.quorums c.args.seed c.args.turns c.args.source c.args.disks.items farm.nodes.items _
+    (opened_so g.D.Disk g.D.Pair c.args.quorums c.args.seed c.args.source farm.source c.args.disks.items farm.nodes.items on.source on.journals on.rooms on.draws on.program on.going)
+    c.all_at_rest.result c.all_at_rest.ensures c.gone-made.result.0
+    (subst (λ (s : Source). HaveGone g.D.Disk c.args.turns s farm.nodes.items c.gone-made.result.1.items c.gone-made.result.0) on.source c.gone-made.ensures.gone)
 
 pub returns-clause-refused : goal.returns-clause-refused
 returns-clause-refused g c =
-    let ran_there = ran g.D.Disk (λ n. n.program) (λ n. n.log) (λ n. n.seats.items) (λ n. n.draws) (λ n. n.halted) g.D.Pair _ c.args.quorums c.args.seed c.args.source
-    c.in-Ok.farm.source c.args.disks.items c.in-Ok.farm.nodes.items c.in-Ok-run_rounds.nodes.items c.in-Ok.ensures.source
-    c.in-Ok.ensures.journals c.in-Ok.ensures.rooms c.in-Ok.ensures.draws c.in-Ok.ensures.going c.in-Ok-run_rounds.ensures.came
-    c.in-Ok-run_rounds.ensures.fit in
-    let met = subst (λ l. AllZip (Meets g.D.Disk (λ n. n.program) (λ n. n.log) (λ n. fours_of n.seats.items) (λ n. n.halted) (λ n. learned_by n.seats.items)) c.in-Ok-run_rounds.nodes.items l)
-    (sym c.deref.ensures.value) c.in-Ok-met_all.ensures.stay in
-    refused_so g.D.Disk g.D.Pair g.H.Naming c.args.quorums c.args.seed c.args.source c.in-Ok.farm.source c.args.disks.items c.in-Ok.ensures.source _ _ ran_there
-    (failed_same g.D.Disk (λ n. n.program) (λ n. n.log) (λ n. n.seats.items) (λ n. n.draws) (λ n. n.halted) c.in-Ok-run_rounds.nodes.items ∙ c.in-Ok-met_all.ensures.going)
-    (have_met_fit g.D.Disk (λ n. n.program) (λ n. n.log) (λ n. n.seats.items) (λ n. n.draws) (λ n. n.halted) _
-    c.in-Ok-run_rounds.nodes.items c.deref.result.now c.in-Ok-run_rounds.ensures.fit met) c.built_by.result c.built_by.ensures.refused
+    let on = c.in-Ok-over.ensures in
+    let farm = c.in-Ok-over.farm in
+    unbuilt_so g.D.Disk g.D.Pair c.args.quorums c.args.seed c.args.turns c.args.source c.args.disks.items farm.nodes.items _
+    (opened_so g.D.Disk g.D.Pair c.args.quorums c.args.seed c.args.source farm.source c.args.disks.items farm.nodes.items on.source on.journals on.rooms on.draws on.program on.going)
+    c.all_at_rest.result c.all_at_rest.ensures c.gone-made.result.0
+    (subst (λ (s : Source). HaveGone g.D.Disk c.args.turns s farm.nodes.items c.gone-made.result.1.items c.gone-made.result.0) on.source c.gone-made.ensures.gone)

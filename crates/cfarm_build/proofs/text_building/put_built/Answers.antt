@@ -3,7 +3,7 @@ use Rattle.std.proofs.Common.{refl, subst, ◌∙◌}
 use Rattle.std.specs.Io.KnownBytes.{Appends}
 use Rattle.cfarm_build_linking.specs.Carried.{bundle_of}
 use Rattle.cfarm_output.specs.Begun.{IsBegun}
-use Rattle.cfarm_build_folder.specs.Putting.{PlacesBoth}
+use Rattle.cfarm_build_folder.specs.Putting.{PlacesBoth, PlacesNotBoth}
 use Rattle.cfarm_build.proofs.Putting.{no_line, stopped}
 use Rattle.cfarm_build.proofs.text_building.put_built.Goals as goal
 
@@ -12,7 +12,12 @@ returns-in_default-clause-refused g c = no_line c.args.options c.args.built (g.F
 
 -- the file of the bundle is refused, or that of the program
 pub returns-in-Err-clause-refused : goal.returns-in-Err-clause-refused
-returns-in-Err-clause-refused g c = stopped c.args.options c.args.built _ _ _ _ refl c.in-Err.fault c.in-Err.ensures.refused
+returns-in-Err-clause-refused g c =
+    let fault = c.in-Err.fault in
+    let placed = g.F.Files.placed c.args.files.now in
+    let now_placed = g.F.Files.placed c.place_both.new.files in
+    let none = subst (λ bytes. PlacesNotBoth c.args.options (bundle_of c.args.built) placed now_placed bytes fault) c.deref.ensures.value c.in-Err.ensures.refused in
+    stopped c.args.options c.args.built _ _ _ _ refl fault none
 
 -- the report is printed
 pub returns-in-Ok-print_whole-clause-put : goal.returns-in-Ok-print_whole-clause-put

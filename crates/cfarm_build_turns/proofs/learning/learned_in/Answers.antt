@@ -1,6 +1,6 @@
 -- Functions of the passes may be sent to other threads.
 use denote.Param.Send.{sendable}
-use Rattle.farm_nodes_turn_passes.proofs.Sent.{function_send, function_sync}
+use Rattle.farm_nodes_turn_node.proofs.Sent.{function_send, function_sync}
 use Rattle.cfarm_build_turns.proofs.learning.learned_in.Goals as goal
 
 pub learned-requires-3-send-P-Out-Fun : goal.learned-requires-3-send-P-Out-Fun

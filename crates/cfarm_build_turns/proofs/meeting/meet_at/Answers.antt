@@ -1,8 +1,7 @@
 -- Two of the nodes change, one on each side of the cut.
 use Rattle.std.proofs.Common.{◌≡◌, ◌<◌, ◌++◌, suc, None, length, set, sym, subst, ◌∙◌, arith}
 use Rattle.std.specs.List.{AllByRecursion, AllZip}
-use Rattle.farm_nodes_turn_passes.specs.Fours.{fours_of}
-use Rattle.cfarm_build_result.specs.Learned.{learned_by}
+use Rattle.cfarm_build_result.proofs.Going.{both_on}
 use Rattle.cfarm_build_result.proofs.Kept.{first_keeps, second_keeps}
 use Rattle.cfarm_build_turns.proofs.Counting.{all_counted, at_place, not_counted}
 use Rattle.cfarm_build_result.proofs.Zips.{all_back, all_front, all_get, append, one_set, set_first, set_second}
@@ -29,13 +28,29 @@ returns-clause-stay g c =
     (set front at first ++ set back 0 second)) (sym parts.value)
     (append (NodeStays g.D.Disk) front (set front at first) back (set back 0 second)
     (one_set (NodeStays g.D.Disk)
-    (meets_none g.D.Disk (λ n. n.program) (λ n. n.log) (λ n. fours_of n.seats.items) (λ n. n.halted) (λ n. learned_by n.seats.items))
+    (meets_none g.D.Disk)
     front at c.index-front-number.result first in_front
-    (told.first_stays.1, record { log = told.first_stays.0; halted_same = told.first_stays.4; sound = told.first_sound; learned_still = first_keeps _ _ _ _ _ met }))
+    record {
+      program = told.first_stays.1;
+      log = told.first_stays.0;
+      draws = told.first_stays.3;
+      halted_same = told.first_stays.4;
+      seats_on = (both_on _ _ _ _ _ met).0;
+      learned_still = first_keeps _ _ _ _ _ met;
+      fit = λ f. (told.first_sound f.0, told.first_waiting f.1);
+    })
     (one_set (NodeStays g.D.Disk)
-    (meets_none g.D.Disk (λ n. n.program) (λ n. n.log) (λ n. fours_of n.seats.items) (λ n. n.halted) (λ n. learned_by n.seats.items))
+    (meets_none g.D.Disk)
     back 0 c.index-back-0.result second in_back
-    (told.second_stays.1, record { log = told.second_stays.0; halted_same = told.second_stays.4; sound = told.second_sound; learned_still = second_keeps _ _ _ _ _ met })))
+    record {
+      program = told.second_stays.1;
+      log = told.second_stays.0;
+      draws = told.second_stays.3;
+      halted_same = told.second_stays.4;
+      seats_on = (both_on _ _ _ _ _ met).1;
+      learned_still = second_keeps _ _ _ _ _ met;
+      fit = λ f. (told.second_sound f.0, told.second_waiting f.1);
+    }))
 
 pub returns-clause-counted : goal.returns-clause-counted
 returns-clause-counted g c = λ yes.

@@ -1,20 +1,17 @@
 -- Meetings behind meetings.
-use Rattle.std.proofs.Common.{refl, sym, subst, arith}
-use Rattle.std.specs.Arc.{arc_value}
-use Rattle.farm_nodes_turn_passes.specs.Fours.{fours_of}
-use Rattle.cfarm_build_result.specs.Learned.{learned_by}
+use Rattle.std.proofs.Common.{arith}
 use Rattle.cfarm_build_turns.proofs.Counting.{all_there, none_back, one_back}
-use Rattle.cfarm_build_result.proofs.Zips.{all_same, as_long, kept}
+use Rattle.cfarm_build_result.proofs.Zips.{all_same, as_long}
 use Rattle.cfarm_build_turns.specs.Nodes.{HasFewFunctions, NodeStays}
-use Rattle.cfarm_build_turns.proofs.Turning.{going_still, meets_none, meets_through}
+use Rattle.cfarm_build_turns.proofs.Turning.{going_still, meets_none, meets_through, such_still}
 use Rattle.cfarm_build_turns.proofs.meeting.meet_neighbours.Goals as goal
 
 pub loop-next-init : goal.loop-next-init
 loop-next-init g c = all_same (NodeStays g.D.Disk)
-    (meets_none g.D.Disk (λ n. n.program) (λ n. n.log) (λ n. fours_of n.seats.items) (λ n. n.halted) (λ n. learned_by n.seats.items)) c.args.nodes.now
+    (meets_none g.D.Disk) c.args.nodes.now
 
 pub loop-next-preserved : goal.loop-next-preserved
-loop-next-preserved g c = meets_through g.D.Disk (λ n. n.program) (λ n. n.log) (λ n. fours_of n.seats.items) (λ n. n.halted) (λ n. learned_by n.seats.items) _ _ _
+loop-next-preserved g c = meets_through g.D.Disk _ _ _
     c.loop-next.invariant c.meet_at-counted.ensures.stay
 
 pub loop-done-init : goal.loop-done-init
@@ -25,31 +22,27 @@ loop-done-preserved g c =
     let done = c.loop-done in
     let there = as_long (NodeStays g.D.Disk) c.args.nodes.now done.nodes done.invariant.stay in
     record {
-      stay = meets_through g.D.Disk (λ n. n.program) (λ n. n.log) (λ n. fours_of n.seats.items) (λ n. n.halted) (λ n. learned_by n.seats.items) _ _ _ done.invariant.stay c.meet_at.ensures.stay;
-      back = one_back (λ n. n.seats.items) (NodeStays g.D.Disk) (λ n m it. it.1.learned_still) done.done _ done.nodes _ c.meet_at.ensures.stay
+      stay = meets_through g.D.Disk _ _ _ done.invariant.stay c.meet_at.ensures.stay;
+      back = one_back (λ n. n.seats.items) (NodeStays g.D.Disk) (λ n m it. it.seats_on) (λ n m it. it.learned_still) done.done _ done.nodes _ c.meet_at.ensures.stay
           (omega (arith, there, c.loop-done-test.true)) (c.meet_at.ensures.counted c.if-not-meet_at.false) done.invariant.back;
     }
 
 pub meet_at-counted-requires-clause-few : goal.meet_at-counted-requires-clause-few
 meet_at-counted-requires-clause-few g c =
-    kept (NodeStays g.D.Disk)
-    (λ n. HasFewFunctions (arc_value n.program)) (λ n. HasFewFunctions (arc_value n.program))
-    (λ x y it few. subst (λ p. HasFewFunctions (arc_value p)) (sym it.0) few) c.args.nodes.now c.loop-next.nodes c.loop-next.invariant c.requires.few
+    such_still g.D.Disk HasFewFunctions c.args.nodes.now c.loop-next.nodes c.loop-next.invariant c.requires.few
 
 pub meet_at-counted-requires-clause-going : goal.meet_at-counted-requires-clause-going
-meet_at-counted-requires-clause-going g c = going_still g.D.Disk (λ n. n.program) (λ n. n.log) (λ n. fours_of n.seats.items) (λ n. n.halted) (λ n. learned_by n.seats.items) c.args.nodes.now c.loop-next.nodes c.loop-next.invariant c.requires.going
+meet_at-counted-requires-clause-going g c = going_still g.D.Disk c.args.nodes.now c.loop-next.nodes c.loop-next.invariant c.requires.going
 
 pub meet_at-requires-clause-few : goal.meet_at-requires-clause-few
 meet_at-requires-clause-few g c =
-    kept (NodeStays g.D.Disk)
-    (λ n. HasFewFunctions (arc_value n.program)) (λ n. HasFewFunctions (arc_value n.program))
-    (λ x y it few. subst (λ p. HasFewFunctions (arc_value p)) (sym it.0) few) c.args.nodes.now c.loop-done.nodes c.loop-done.invariant.stay c.requires.few
+    such_still g.D.Disk HasFewFunctions c.args.nodes.now c.loop-done.nodes c.loop-done.invariant.stay c.requires.few
 
 pub meet_at-requires-clause-going : goal.meet_at-requires-clause-going
-meet_at-requires-clause-going g c = going_still g.D.Disk (λ n. n.program) (λ n. n.log) (λ n. fours_of n.seats.items) (λ n. n.halted) (λ n. learned_by n.seats.items) c.args.nodes.now c.loop-done.nodes c.loop-done.invariant.stay c.requires.going
+meet_at-requires-clause-going g c = going_still g.D.Disk c.args.nodes.now c.loop-done.nodes c.loop-done.invariant.stay c.requires.going
 
 pub returns-then-not-meet_at-clause-stay : goal.returns-then-not-meet_at-clause-stay
-returns-then-not-meet_at-clause-stay g c = meets_through g.D.Disk (λ n. n.program) (λ n. n.log) (λ n. fours_of n.seats.items) (λ n. n.halted) (λ n. learned_by n.seats.items) _ _ _
+returns-then-not-meet_at-clause-stay g c = meets_through g.D.Disk _ _ _
     c.loop-done.invariant.stay c.meet_at.ensures.stay
 
 pub returns-clause-stay : goal.returns-clause-stay

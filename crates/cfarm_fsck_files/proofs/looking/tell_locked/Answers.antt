@@ -1,8 +1,13 @@
 -- Why `tell_locked` meets its clause `does`.
-use Rattle.std.proofs.Common.{refl, inr}
+use Rattle.std.proofs.Common.{refl, inl, inr}
 use Rattle.cfarm_files.specs.declared.fault.FileFault.TheVariants.{NoMemory}
 use Rattle.cfarm_program_status.specs.Telling.{no_memory}
 use Rattle.cfarm_fsck_files.proofs.looking.tell_locked.Goals as goal
 
 pub returns-in_default-clause-does : goal.returns-in_default-clause-does
 returns-in_default-clause-does g c = (no_memory, inr (NoMemory, refl, refl), c.tell_no_memory.ensures.told)
+
+pub returns-clause-does : goal.returns-clause-does
+returns-clause-does g c =
+    let it = c.tell_files.ensures.does in
+    (it.0, inl (c.in-Ok-lock.lock, c.in-Ok-lock.ensures.covers, it.1), it.2)

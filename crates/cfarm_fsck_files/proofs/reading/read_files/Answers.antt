@@ -11,21 +11,21 @@ returns-in-Err-clause-refused g c = record {
   found = c.loop-node.found.items;
   some = c.loop-node.invariant.some;
   below = omega (arith, c.loop-node.invariant.count, c.loop-node-test.true);
-  refused = subst (λ n. IsUnreadNode g.F.Files c.args.files.now c.args.folder.now n c.in-Err.fault) (sym c.loop-node.invariant.count) c.in-Err.ensures.refused;
+  refused = subst (λ n. IsUnreadNode g.F.Files c.args.lock.now c.args.folder.now n c.in-Err.fault) (sym c.loop-node.invariant.count) c.in-Err.ensures.refused;
 }
 
 -- one more is read
 pub loop-node-preserved : goal.loop-node-preserved
 loop-node-preserved g c =
     let over = g.F.Files in
-    let files = c.args.files.now in
+    let lock = c.args.lock.now in
     let folder = c.args.folder.now in
     let found = c.loop-node.found.items in
     let one = c.in-Ok.one in
     let more_is = c.in-Ok-push.ensures.items in
     record {
       count = omega (arith, ap length more_is, length_push found one, c.loop-node.invariant.count);
-      some = subst (λ xs. AreSome over files folder xs) (sym more_is)
-          (one_more over files folder found one c.loop-node.invariant.some
-          (subst (λ n. AreOfNode over files folder n one) (sym c.loop-node.invariant.count) c.in-Ok.ensures.read));
+      some = subst (λ xs. AreSome over lock folder xs) (sym more_is)
+          (one_more over lock folder found one c.loop-node.invariant.some
+          (subst (λ n. AreOfNode over lock folder n one) (sym c.loop-node.invariant.count) c.in-Ok.ensures.read));
     }

@@ -6,5 +6,5 @@ use Rattle.cfarm_fsck_files.proofs.reading.read_files.Given as goal
 abbrev pub invariant-loop-node : goal.invariant-loop-node
 invariant-loop-node g l = record {
   count : length l.found.items ≡ l.node;
-  some : AreSome g.F.Files l.files l.folder l.found.items;
+  some : AreSome g.F.Files l.lock l.folder l.found.items;
 }

@@ -1,0 +1,50 @@
+//! What stands at a path, before anything is written there.
+
+use std::io::ErrorKind;
+use std::os::unix::fs::MetadataExt;
+use std::{fs, io};
+
+/// The device and the number of the file that a path leads to.
+fn numbers_of(rt: &HostRuntime, path: &str) -> io::Result<(u64, u64)> {
+    let found = fs::metadata(rt, path)?;
+    Ok((found.dev(), found.ino()))
+}
+
+/// Whether there was no memory to look.
+fn is_unseen(found: &io::Result<(u64, u64)>) -> bool {
+    match found {
+        Ok(_) => false,
+        Err(fault) => fault.kind() == ErrorKind::OutOfMemory,
+    }
+}
+
+/// Whether both paths lead to one file. Where there was no memory to look they might.
+pub(crate) fn are_same(rt: &HostRuntime, path: &str, other: &str) -> bool {
+    let (one, two) = (numbers_of(rt, path), numbers_of(rt, other));
+    if is_unseen(&one) || is_unseen(&two) {
+        return true;
+    }
+    match (one, two) {
+        (Ok(one), Ok(two)) => one == two,
+        _ => false,
+    }
+}
+
+/// Whether nothing of this path is there, or a plain file. A link is not followed. Nothing is in a folder that is none.
+pub(crate) fn is_free(rt: &HostRuntime, path: &str) -> bool {
+    match fs::symlink_metadata(rt, path) {
+        Ok(found) => found.is_file(),
+        Err(fault) => {
+            let kind = fault.kind();
+            kind == ErrorKind::NotFound || kind == ErrorKind::NotADirectory
+        }
+    }
+}
+
+/// The same of what the path leads to, where a link is followed.
+pub(crate) fn leads_to_free(rt: &HostRuntime, path: &str) -> bool {
+    match fs::metadata(rt, path) {
+        Ok(found) => found.is_file(),
+        Err(fault) => fault.kind() == ErrorKind::NotFound,
+    }
+}
