@@ -44,13 +44,13 @@ module _ {D : Type 0} (disk : disks.Ghosts D) (pair : pairs.Ghosts D) (q : Sizes
   abbrev r : RestIn q (room_at f pass) seats
   r = rest f pass low
 
-  few : length (kept_of kept (room_at f pass)) ≤ 7
+  pub few : length (kept_of kept (room_at f pass)) ≤ 7
   few =
       let most : q.nodes ≤ 7 = sizes.most in
       let count : length (kept_of kept (room_at f pass)) ≡ length kept = length-map kept (λ (node : Vec KeptPart). nodes_of node.items (room_at f pass)) in
       omega (arith, most, count, opened.are_kept.count, opened.journals.count, all.count)
 
-  holds : (i : ℕ) → i < q.nodes → MayHold (r.words i) (nodes_of (kept_of kept (room_at f pass)) i)
+  pub holds : (i : ℕ) → i < q.nodes → MayHold (r.words i) (nodes_of (kept_of kept (room_at f pass)) i)
   holds i lt =
       let p = found_at given i (omega (arith, lt, all.count)) in
       let log = found_at again i (omega (arith, lt, all.count, opened.journals.count)) in

@@ -20,7 +20,7 @@ use Rattle.farm_nodes_crash.proofs.Meeting.{nodes_that_heard_rest}
 
 module _ {D : Type 0} (disk : disks.Ghosts D) (pair : pairs.Ghosts D) (q : Sizes) (digest : List ℕ) (functions : ℕ) where
   -- a seat of a node
-  node_seat : (i : ℕ) (log : Log D) (seats : NodeSeats) (halted : Option Halted) → IsNode disk pair q digest functions i log seats halted
+  pub node_seat : (i : ℕ) (log : Log D) (seats : NodeSeats) (halted : Option Halted) → IsNode disk pair q digest functions i log seats halted
       → (f : ℕ) (pass : Which) (s : FunctionSeats) → slice_get seats f ≡ Some s → IsSeatOf q i (words_of s pass)
   node_seat i log seats halted node f pass s at =
       let there : slice_get seats (function_of (room_at f pass)) ≡ Some s = ap (λ (n : ℕ). slice_get seats n) (function_at f pass) ∙ at in
@@ -31,7 +31,7 @@ module _ {D : Type 0} (disk : disks.Ghosts D) (pair : pairs.Ghosts D) (q : Sizes
         quorums = node.sound.own.quorums (room_at f pass) s there ∙ ap (λ (h : Header). sizes_in h) node.header;
       })
 
-  are_seats : (logs : ℕ → Log D) (seats : ℕ → NodeSeats) (halted : ℕ → Option Halted)
+  pub are_seats : (logs : ℕ → Log D) (seats : ℕ → NodeSeats) (halted : ℕ → Option Halted)
       → ((i : ℕ) → i < q.nodes → IsNode disk pair q digest functions i (logs i) (seats i) (halted i)) → AreSeats q functions seats
   are_seats logs seats halted nodes = record {
     count = λ i lt. (nodes i lt).functions_are;

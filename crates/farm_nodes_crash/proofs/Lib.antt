@@ -7,3 +7,4 @@ pub mod Opened
 pub mod Meeting
 pub mod AtRest
 pub mod Again
+pub mod Heard

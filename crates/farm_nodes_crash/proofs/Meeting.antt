@@ -10,16 +10,15 @@ use Rattle.rooms_crash_heard.proofs.Hearing.{heard_rest}
 use Rattle.rooms_crash_heard.proofs.Neighbours.{neighbours_hear}
 use Rattle.rooms_crash_heard.specs.Heard.{AllHearOf, back, forth, HearsOfAll}
 use Rattle.farm_nodes_turn_passes.specs.Fours.{words_of}
-use Rattle.farm_nodes_turn_passes.specs.Numbers.{room_at}
 use Rattle.farm_nodes_turn_passes.specs.declared.which.Which.{Which}
 use Rattle.farm_nodes_restart_records.proofs.Rooms.{function_at, pass_at_room}
 use Rattle.farm_nodes_open_nodes.proofs.Lists.{found_at}
 use Rattle.farm_nodes_crash.specs.Left.{NodeSeats}
-use Rattle.farm_nodes_crash.specs.Meeting.{AreSeats, FunctionSeats, HearAll, MeetForthAndBack, NeighboursHearAll, NodesMeet, NodesMeetings, NodesThatHeardRest}
-use Rattle.farm_nodes_crash.specs.Rooms.{RestIn, RoomsRest}
+use Rattle.farm_nodes_crash.specs.Meeting.{AreSeats, FunctionSeats, HearAll, NeighboursHearAll, NodesMeet, NodesMeetings, NodesThatHeardRest}
+use Rattle.farm_nodes_crash.specs.Rooms.{RoomsRest}
 
 -- the seat of a pass, where there is one
-abbrev pick : SeatState → Which → Option FunctionSeats → SeatState
+abbrev pub pick : SeatState → Which → Option FunctionSeats → SeatState
 pick d pass None = d
 pick d pass (Some s) = words_of s pass
 
@@ -32,10 +31,10 @@ picked d pass o p r t a b x y eo ep er et h =
     (subst (λ (z : Option FunctionSeats). HaveMet (words_of a pass) (words_of b pass) (words_of x pass) (pick d pass z)) (sym et) h)))
 
 module _ (q : Sizes) (functions : ℕ) where
-  abbrev Counted : (ℕ → NodeSeats) → Type 0
+  abbrev pub Counted : (ℕ → NodeSeats) → Type 0
   Counted seats = (i : ℕ) → i < q.nodes → length (seats i) ≡ functions
 
-  counted_once : (i j : ℕ) (old new : ℕ → NodeSeats) → NodesMeet q functions i j old new → Counted old → Counted new
+  pub counted_once : (i j : ℕ) (old new : ℕ → NodeSeats) → NodesMeet q functions i j old new → Counted old → Counted new
   counted_once i j old new h count k lt = at (cases_eq k i) (cases_eq k j)
     where
       at : (k ≡ i) ⊎ (k ≢ i) → (k ≡ j) ⊎ (k ≢ j) → length (new k) ≡ functions
@@ -43,15 +42,15 @@ module _ (q : Sizes) (functions : ℕ) where
       at (inr d) (inl e) = ap (λ (x : ℕ). length (new x)) e ∙ h.second_count
       at (inr d) (inr c) = ap (λ (s : NodeSeats). length s) (h.others k d c) ∙ count k lt
 
-  counted : (ps : List (ℕ × ℕ)) (old new : ℕ → NodeSeats) → NodesMeetings q functions ps old new → Counted old → Counted new
+  pub counted : (ps : List (ℕ × ℕ)) (old new : ℕ → NodeSeats) → NodesMeetings q functions ps old new → Counted old → Counted new
   counted [] old new h count k lt = ap (λ (s : NodeSeats). length s) (h k) ∙ count k lt
   counted (p ∷ ps) old new h count k lt = counted_once p.0 p.1 h.0 new h.2 (counted ps old h.0 h.1 count) k lt
 
   module _ (d : SeatState) (f : ℕ) (pass : Which) (low : f < functions) where
-    abbrev seats_at : (ℕ → NodeSeats) → ℕ → SeatState
+    abbrev pub seats_at : (ℕ → NodeSeats) → ℕ → SeatState
     seats_at seats i = pick d pass (slice_get (seats i) f)
 
-    there : (seats : ℕ → NodeSeats) → Counted seats → (i : ℕ) → i < q.nodes → (s : FunctionSeats) × (slice_get (seats i) f ≡ Some s)
+    pub there : (seats : ℕ → NodeSeats) → Counted seats → (i : ℕ) → i < q.nodes → (s : FunctionSeats) × (slice_get (seats i) f ≡ Some s)
     there seats count i lt = found_at (seats i) f (omega (arith, low, count i lt))
 
     one : (i j : ℕ) (old new : ℕ → NodeSeats) → NodesMeet q functions i j old new → Counted old → Meets i j (seats_at old) (seats_at new)
@@ -77,32 +76,42 @@ module _ (q : Sizes) (functions : ℕ) where
         y : (s : FunctionSeats) × (slice_get (new j) f ≡ Some s)
         y = there new now j h.second
 
-    all : (ps : List (ℕ × ℕ)) (old new : ℕ → NodeSeats) → NodesMeetings q functions ps old new → Counted old → Meetings ps (seats_at old) (seats_at new)
+    pub all : (ps : List (ℕ × ℕ)) (old new : ℕ → NodeSeats) → NodesMeetings q functions ps old new → Counted old → Meetings ps (seats_at old) (seats_at new)
     all [] old new h count = λ k. ap (λ (s : NodeSeats). pick d pass (slice_get s f)) (h k)
     all (p ∷ ps) old new h count = (seats_at h.0, all ps old h.0 h.1 count, one p.0 p.1 h.0 new h.2 (counted ps old h.0 h.1 count))
 
   module _ (h : ℕ) (old : ℕ → NodeSeats) (seats : AreSeats q functions old) (twice : HearAll q functions h old) where
-    rest : RoomsRest q functions old
-    rest f pass low = at_one (words_of (found_at (old h) f (omega (arith, low, seats.count h twice.one))).0 pass)
-      where
-        at_one : SeatState → RestIn q (room_at f pass) old
-        at_one d = record {
-          opening = (seats_at d f pass low old h).view.opening;
-          run = (seats_at d f pass low twice.between h).view.seen;
-          words = seats_at d f pass low old;
-          are = λ i il.
-              let s = there d f pass low old seats.count i il in (
-                s.0,
-                ap (λ (n : ℕ). slice_get (old i) n) (function_at f pass) ∙ s.1,
-                ap (λ (w : Which). words_of s.0 w) (pass_at_room f pass) ∙ sym (ap (λ (o : Option FunctionSeats). pick d pass o) s.1),
-              );
-          rest = heard_rest q h twice.first twice.second (seats_at d f pass low old) (seats_at d f pass low twice.between) (seats_at d f pass low twice.new) twice.one
-              (all d f pass low twice.first old twice.between twice.met seats.count) twice.heard
-              (all d f pass low twice.second twice.between twice.new twice.met_again (counted twice.first old twice.between twice.met seats.count)) twice.hear
-              (λ i il.
-              let s = there d f pass low old seats.count i il in
-              subst (λ (o : Option FunctionSeats). IsSeatOf q i (pick d pass o)) (sym s.1) (seats.each i f pass s.0 il s.1));
-        }
+    abbrev pub own_seat : (f : ℕ) → Which → f < functions → SeatState
+    own_seat f pass low = words_of (found_at (old h) f (omega (arith, low, seats.count h twice.one))).0 pass
+
+    abbrev pub rest : RoomsRest q functions old
+    rest f pass low = record {
+      opening = (seats_at (own_seat f pass low) f pass low old h).view.opening;
+      run = (seats_at (own_seat f pass low) f pass low twice.between h).view.seen;
+      words = seats_at (own_seat f pass low) f pass low old;
+      are = λ i il.
+          let s = there (own_seat f pass low) f pass low old seats.count i il in (
+            s.0,
+            ap (λ (n : ℕ). slice_get (old i) n) (function_at f pass) ∙ s.1,
+            ap (λ (w : Which). words_of s.0 w) (pass_at_room f pass) ∙ sym (ap (λ (o : Option FunctionSeats). pick (own_seat f pass low) pass o) s.1),
+          );
+      rest = heard_rest q h twice.first twice.second (seats_at (own_seat f pass low) f pass low old) (seats_at (own_seat f pass low) f pass low twice.between)
+          (seats_at (own_seat f pass low) f pass low twice.new) twice.one
+          (all (own_seat f pass low) f pass low twice.first old twice.between twice.met seats.count) twice.heard
+          (all (own_seat f pass low) f pass low twice.second twice.between twice.new twice.met_again (counted twice.first old twice.between twice.met seats.count)) twice.hear
+          (λ i il.
+          let s = there (own_seat f pass low) f pass low old seats.count i il in
+          subst (λ (o : Option FunctionSeats). IsSeatOf q i (pick (own_seat f pass low) pass o)) (sym s.1) (seats.each i f pass s.0 il s.1));
+    }
+
+    -- the room in which they rest is that of node h's seat, and the run is what this one has seen between
+    pub rest_opening : (f : ℕ) (pass : Which) (low : f < functions) (s : FunctionSeats) → slice_get (old h) f ≡ Some s
+        → (rest f pass low).opening ≡ (words_of s pass).view.opening
+    rest_opening f pass low s at = ap (λ (o : Option FunctionSeats). (pick (own_seat f pass low) pass o).view.opening) at
+
+    pub rest_run : (f : ℕ) (pass : Which) (low : f < functions) (s : FunctionSeats) → slice_get (twice.between h) f ≡ Some s
+        → (rest f pass low).run ≡ (words_of s pass).view.seen
+    rest_run f pass low s at = ap (λ (o : Option FunctionSeats). (pick (own_seat f pass low) pass o).view.seen) at
 
 pub nodes_that_heard_rest : (q : Sizes) (functions : ℕ) → NodesThatHeardRest q functions
 nodes_that_heard_rest q functions h old seats twice = rest q functions h old seats twice

@@ -18,7 +18,7 @@ use Rattle.farm_nodes_open_stored.specs.Nodes.{AreMade}
 use Rattle.farm_nodes_open_stored.specs.Read.{AreKept}
 use Rattle.farm_nodes_open_nodes.specs.Back.{IsJournalOn}
 use Rattle.farm_nodes_crash.specs.Left.{AreLeftOf, NodeSeats}
-use Rattle.farm_nodes_crash.specs.Meeting.{FunctionSeats}
+use Rattle.farm_nodes_crash.specs.Meeting.{FunctionSeats, HearAll}
 use Rattle.farm_nodes_crash.specs.Rooms.{RoomsRest}
 
 -- a seat in a room that opened from these kept parts, whatever was done with it since
@@ -33,7 +33,7 @@ module _ {D : Type 0} (disk : disks.Ghosts D) (pair : pairs.Ghosts D) (q : Sizes
     pub are_kept : AreMade (λ i log k. disk.is_honest log.disk → AreKept functions (length again) i (acknowledged disk.seen log) k.items)
         again (length again) kept
 
-  -- ---- the promise
+  -- ---- the promises
 
   -- Where the nodes rested as all crashed, what is learned in a room of the farm that opens over that is what was learned there before.
   abbrev pub LearnedAgain : Type 0
@@ -42,5 +42,16 @@ module _ {D : Type 0} (disk : disks.Ghosts D) (pair : pairs.Ghosts D) (q : Sizes
       → AreLeftOf disk pair q digest functions logs seats halted given → RoomsRest q functions seats
       → (again : List (Log D)) (kept : List (Vec KeptPart)) → AreOpenedOn digest functions given again kept
       → (f : ℕ) (pass : Which) (i : ℕ) (s : FunctionSeats) (later : SeatState) → f < functions → i < q.nodes → slice_get (seats i) f ≡ Some s
+      → IsLaterSeat q (kept_of kept (room_at f pass)) later
+      → (v u : ℕ) → (words_of s pass).node.learned ≡ Some v → later.node.learned ≡ Some u → v ≡ u
+
+  -- Where node h hears of all in meetings, and all of it again, with nothing but meetings between, what node h has learned by then is what is
+  -- learned in the room of the farm that opens over what a crash left.
+  abbrev pub HeardIsLearnedAgain : Type 0
+  HeardIsLearnedAgain =
+      (digest : List ℕ) (functions : ℕ) (logs : ℕ → Log D) (seats : ℕ → NodeSeats) (halted : ℕ → Option Halted) (given : List D)
+      → AreLeftOf disk pair q digest functions logs seats halted given → (h : ℕ) (heard : HearAll q functions h seats)
+      → (again : List (Log D)) (kept : List (Vec KeptPart)) → AreOpenedOn digest functions given again kept
+      → (f : ℕ) (pass : Which) (s : FunctionSeats) (later : SeatState) → f < functions → slice_get (heard.between h) f ≡ Some s
       → IsLaterSeat q (kept_of kept (room_at f pass)) later
       → (v u : ℕ) → (words_of s pass).node.learned ≡ Some v → later.node.learned ≡ Some u → v ≡ u

@@ -4,17 +4,13 @@ use Rattle.durable_model.specs.declared.disk.Disk as disks
 use Rattle.durable_pair.specs.declared.pair.Pair as pairs
 use Rattle.paxos_core_world.specs.Quorum.{Sizes}
 use Rattle.acceptor_log.specs.declared.log.Log.{Log}
-use Rattle.farm_nodes_turn_passes.specs.Fours.{Four}
-use Rattle.farm_nodes_turn_passes.specs.Offers.{ConstantsOffer, ExpressionsOffer, AllocationOffer, OrderOffer, IsConstants, IsExpressions, IsAllocation, IsOrder}
+use Rattle.farm_nodes_turn_passes.specs.Offers.{IsConstants, IsExpressions, IsAllocation, IsOrder}
 use Rattle.farm_nodes_turn_passes.specs.Leaves.{MayPend}
+pub use Rattle.farm_nodes_meetings.specs.Meetings.{NodeSeats}
 use Rattle.farm_nodes_turn_node.specs.declared.halted.Halted.{Halted}
 use Rattle.farm_nodes_turn_node.specs.Held.{IsSoundNode}
 use Rattle.farm_nodes_restart_disks.specs.Left.{ShowsLeft}
 use Rattle.farm_nodes_open_journals.specs.Journals.{header_of}
-
--- a node's seats in the rooms of all functions, by function
-abbrev pub NodeSeats : Type 0
-NodeSeats = List (Four ConstantsOffer ExpressionsOffer AllocationOffer OrderOffer)
 
 -- where it is stopped, it may have an act pending that it was asked of a node of the room, or its offer
 abbrev pub IsWaitingWith : NodeSeats → Option Halted → Type 0

@@ -1,5 +1,5 @@
 ghost use Rattle.std.specs.Prelude.{ℕ};
-ghost use Rattle.farm_nodes_crash.specs.Again.{LearnedAgain};
+ghost use Rattle.farm_nodes_crash.specs.Again.{HeardIsLearnedAgain, LearnedAgain};
 ghost use Rattle.farm_nodes_crash.specs.Meeting.{NeighboursHearAll, NodesThatHeardRest};
 ghost use Rattle.farm_nodes_crash.specs.Stand.{LeftJournalsStand, LeftRoomsStand, MetNodesRest, OpenedRoomsStand};
 
@@ -21,8 +21,9 @@ pub fn left_by_all<P: Pair>(quorums: Quorums)
     // nor right after it has opened.
     ensures opened { OpenedRoomsStand P.Disk P.Pair.own quorums }
 
-    // What was learned is learned again.
+    // What was learned is learned again, also what the one has learned that has heard of all in meetings.
     ensures learned { LearnedAgain P.Disk P.Pair.own quorums }
+    ensures heard { HeardIsLearnedAgain P.Disk P.Pair.own quorums }
 {
     let _count = quorums.nodes();
 }

@@ -20,13 +20,13 @@ use Rattle.linear_language.specs.declared.instruction.Instruction.TheVariants as
 use Rattle.linear_language.specs.Function.{FunctionData}
 use Rattle.x86_state.specs.State.{State as Native}
 use Rattle.native_lowering_relation.specs.Related.{Related}
-use Rattle.native_lowering_runs.specs.Reaching.{Reaches}
-use Rattle.native_lowering_moves.proofs.Constants.{constant_reaches}
+use Rattle.native_lowering_checked.proofs.Unchecked.{Reaches, constant_reaches}
 use Rattle.native_lowering_reaching.proofs.Loads.{load_reaches}
 use Rattle.native_lowering_reaching.proofs.Prints.{print_reaches}
 use Rattle.native_lowering_reaching.proofs.Stores.{store_reaches}
-use Rattle.native_lowering_acts.specs.Range.{AreWords, AreDeclared}
-use Rattle.native_lowering_acts.proofs.One.{same_some, never, operate_one}
+use Rattle.native_lowering_ranges.specs.Range.{AreWords, AreDeclared}
+use Rattle.native_lowering_ranges.proofs.Words.{same_some, never}
+use Rattle.native_lowering_acts.proofs.One.{operate_one}
 use Rattle.native_lowering_acts.proofs.Two.{operate_two}
 
 module _ (p : Program FunctionData) (room : Option ℕ) (s : State) (t : Native) (related : Related p s t) (words : AreWords s.here.registers) (declared : AreDeclared p.globals s.here.globals) where

@@ -1,5 +1,5 @@
 -- Operators of one word.
-use Rattle.std.proofs.Common.{◌≡◌, ℕ, ◌+◌, ◌<◌, ◌^◌, [], ◌∷◌, Option, Some, None, refl, sym, subst, ◌∙◌, arith}
+use Rattle.std.proofs.Common.{◌≡◌, ℕ, ◌+◌, ◌<◌, ◌^◌, [], ◌∷◌, Option, Some, refl, sym, subst, ◌∙◌, arith}
 use Rattle.std.specs.Prelude.{slice_get}
 use Rattle.ints.specs.Codes.{argument_count_of}
 use Rattle.ints.specs.MachineTable.{machine_table}
@@ -18,22 +18,10 @@ use Rattle.x86_state.specs.State.{State as Native}
 use Rattle.native_lowering_numbers.proofs.Asked.{zero_asks}
 use Rattle.native_lowering_numbers.proofs.Wrapped.{neg_signed, neg_unsigned, not_word}
 use Rattle.native_lowering_relation.specs.Related.{Related}
-use Rattle.native_lowering_runs.specs.Reaching.{Reaches}
-use Rattle.native_lowering_operators.proofs.Comparing.{asks_zero_reaches}
-use Rattle.native_lowering_operators.proofs.Turning.{turns_reaches}
-use Rattle.native_lowering_operators.proofs.Written.{written_here}
+use Rattle.native_lowering_checked.proofs.Unchecked.{Reaches, asks_zero_reaches, turns_reaches, written_here}
 
 pub gives : (o : Option ℕ) (v w : ℕ) → o ≡ Some v → o ≡ Some w → v ≡ w
 gives o v w e g = let both : Some v ≡ Some w = sym e ∙ g in cc
-
-pub same_some : {A : Type 0} (x y : A) → Some x ≡ Some y → x ≡ y
-same_some x y e = cc
-
-pub never : {A : Type 0} (P : Type 0) (x : A) → None ≡ Some x → P
-never P x e = absurd (no e)
-  where
-    no : None ≡ Some x → ⊥
-    no e = cc
 
 module _ (p : Program FunctionData) (room : Option ℕ) (s : State) (t : Native) (related : Related p s t) where
   abbrev To : ℕ → ℕ → Type 0

@@ -28,10 +28,7 @@ use Rattle.native_lowering_numbers.proofs.Quotients.{tested, unsigned_quotient, 
 use Rattle.native_lowering_numbers.proofs.Shifts.{left_signed, left_unsigned, right_signed, right_unsigned, left_none, right_none, signed_right_none}
 use Rattle.native_lowering_numbers.proofs.Wrapped.{add_signed, add_unsigned, sub_signed, sub_unsigned, mul_signed, mul_unsigned, and_words, or_words, xor_words}
 use Rattle.native_lowering_relation.specs.Related.{Related}
-use Rattle.native_lowering_runs.specs.Reaching.{Reaches}
-use Rattle.native_lowering_operators.proofs.Comparing.{compares_reaches}
-use Rattle.native_lowering_operators.proofs.Making.{makes_reaches}
-use Rattle.native_lowering_operators.proofs.Written.{written_here}
+use Rattle.native_lowering_checked.proofs.Unchecked.{Reaches, compares_reaches, makes_reaches, written_here}
 use Rattle.native_lowering_checked.proofs.Dividing.{wanted, divides_reaches}
 use Rattle.native_lowering_checked.proofs.Shifting.{shifts_reaches}
 use Rattle.native_lowering_acts.proofs.One.{gives}

@@ -1,3 +1,4 @@
 pub mod Passing
 pub mod Shifting
 pub mod Dividing
+pub mod Unchecked

@@ -1,5 +1,6 @@
--- Why `left_by_all` meets its clauses `journals`, `rooms`, `opened`, `met` and 1 more.
+-- Why `left_by_all` meets its clauses.
 use Rattle.farm_nodes_crash.proofs.Again.{learned_again}
+use Rattle.farm_nodes_crash.proofs.Heard.{heard_is_learned_again}
 use Rattle.farm_nodes_crash.proofs.Journals.{left_journals_stand}
 use Rattle.farm_nodes_crash.proofs.AtRest.{met_nodes_rest}
 use Rattle.farm_nodes_crash.proofs.Opened.{opened_rooms_stand}
@@ -24,3 +25,7 @@ returns-clause-met g c = met_nodes_rest g.P.Disk g.P.Pair c.args.quorums
 pub returns-clause-learned : goal.returns-clause-learned
 returns-clause-learned g c =
     learned_again g.P.Disk g.P.Pair c.args.quorums c.nodes-count.ensures.sizes g.met.P.Pair.honest_spent g.met.P.Pair.new_is_left
+
+pub returns-clause-heard : goal.returns-clause-heard
+returns-clause-heard g c =
+    heard_is_learned_again g.P.Disk g.P.Pair c.args.quorums c.nodes-count.ensures.sizes g.met.P.Pair.honest_spent g.met.P.Pair.new_is_left

@@ -1,0 +1,4 @@
+pub mod Piles
+pub mod Ahead
+pub mod Costs
+pub mod Steps

@@ -1,0 +1,3 @@
+pub mod Terms
+pub mod Shapes
+pub mod Adding

@@ -1,0 +1,9 @@
+use Rattle.std.proofs.Common.{◌≡◌, length}
+use Rattle.c_faults_tokens.specs.Declarations.{behind_others}
+use Rattle.c_faults_tokens.proofs.declarations.behind_others.Given as goal
+
+abbrev pub invariant-loop-left : goal.invariant-loop-left
+invariant-loop-left l = behind_others l.left l.rest ≡ behind_others l.parameters l.tokens
+
+abbrev pub decreases-loop-left : goal.decreases-loop-left
+decreases-loop-left l = length l.left

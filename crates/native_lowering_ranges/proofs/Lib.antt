@@ -1,0 +1,4 @@
+pub mod Cased
+pub mod Words
+pub mod Acts
+pub mod Kept
