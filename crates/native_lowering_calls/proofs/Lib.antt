@@ -1,0 +1,14 @@
+pub mod Lists
+pub mod Blocks
+pub mod Straight
+pub mod Receiving
+pub mod Framing
+pub mod Entering
+pub mod Lost
+pub mod Kept
+pub mod Fetched
+pub mod Calling
+pub mod Restoring
+pub mod Leaving
+pub mod Resuming
+pub mod Returning

@@ -1,0 +1,4 @@
+pub mod Stepping
+pub mod Matching
+pub mod Beginning
+pub mod Keeping
