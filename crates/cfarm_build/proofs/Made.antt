@@ -21,12 +21,12 @@ use Rattle.cfarm_build_turns.specs.CameBackNodes.{NodeCameBack}
 use Rattle.cfarm_build_turns.specs.FarmNode.{FarmNode}
 use Rattle.cfarm_build_turns.specs.Fault.{Fault}
 use Rattle.cfarm_build_turns.specs.Node.{node}
-use Rattle.cfarm_build_turns.specs.Nodes.{AreBack, AreMissed, HasStopped, HaveOpened, NodeStays, failed_of}
+use Rattle.cfarm_build_turns.specs.Nodes.{AreBack, AreMissed, HasStopped, HaveOpened, NodeStays, NodesMetTwice, failed_of}
 use Rattle.cfarm_build_turns.specs.NotRun.{IsNotRun}
 use Rattle.cfarm_build_turns.specs.Resting.{Resting, rested}
 use Rattle.cfarm_build_turns.specs.Unmet.{IsUnmet}
 use Rattle.cfarm_build_turns.proofs.Counting.{missed_seen}
-use Rattle.cfarm_build_turns.proofs.NodesRest.{back_at_rest, failed_at_rest, stopped_at_rest}
+use Rattle.cfarm_build_turns.proofs.NodesRest.{asked_at_rest, back_at_rest, failed_at_rest, stopped_at_rest, twice_at_rest}
 use Rattle.cfarm_build_turns.proofs.Voted.{all_voted}
 use Rattle.cfarm_build_turns.proofs.Turning.{come_back, has_stopped, meets_none}
 use Rattle.cfarm_build_turns.proofs.Zips.{all_of, all_same, map_twice}
@@ -84,17 +84,17 @@ module _ {D O H : Type 0} {h : naming.Ghosts H} (disk : disks.Ghosts D) (turns :
     gone_unmet nodes met e is = record { ran = ran; turned = turned; fit = fit; met = met; makes = tt; makes_not = not_met nodes e is }
 
     -- they met
-    pub gone_met : (nodes seen : List (FarmNode D O H h)) → seen ≡ nodes → AllZip (NodeStays disk) ran nodes → failed_of ran ≡ None → (made : Result Built BuildError)
+    pub gone_met : (nodes seen : List (FarmNode D O H h)) → seen ≡ nodes → AllZip (NodeStays disk) ran nodes → failed_of ran ≡ None → NodesMetTwice ran nodes → (made : Result Built BuildError)
         → IfOk made (IsBuiltBy source (nodes_seen seen)) → IfErr made (IsRefusedBy source (nodes_seen seen)) → HaveGone disk turns source begun nodes made
-    gone_met nodes seen same met going (Ok built) makes refused = record {
+    gone_met nodes seen same met going twice (Ok built) makes refused = record {
       ran = ran;
       turned = turned;
       fit = fit;
       met = met;
-      makes = (going, subst (λ l. IsBuiltBy source (nodes_seen l) built) same makes);
+      makes = (going, subst (λ l. IsBuiltBy source (nodes_seen l) built) same makes, twice);
       makes_not = tt;
     }
-    gone_met nodes seen same met going (Err e) makes refused = record {
+    gone_met nodes seen same met going twice (Err e) makes refused = record {
       ran = ran;
       turned = turned;
       fit = fit;
@@ -136,6 +136,8 @@ module _ {D O H : Type 0} {h : naming.Ghosts H} (disk : disks.Ghosts D) (pair : 
     ran = at_rest gone.ran;
     back = back_so (Ok built) gone;
     going = failed_at_rest gone.ran ∙ gone.makes.0;
+    asked = asked_at_rest disk gone.ran gone.fit;
+    twice = twice_at_rest gone.ran nodes gone.makes.2;
     voted = all_voted disk q pair source given (at_rest nodes) (back_so (Ok built) gone).hold;
     makes = subst (λ l. IsBuiltBy source l built) (sym (seen_same nodes)) gone.makes.1;
   }

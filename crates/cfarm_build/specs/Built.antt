@@ -8,8 +8,9 @@ use Rattle.farm_nodes_source.specs.declared.source.Source.{Source}
 use Rattle.paxos_core_world.specs.Quorum.{Sizes}
 use Rattle.cfarm_build_linking.specs.Built.{IsBuiltBy}
 pub use Rattle.cfarm_build_turns.specs.Built.{Built}
+use Rattle.cfarm_build_turns.specs.Asked.{MayBeAsked}
 use Rattle.cfarm_build_turns.specs.Node.{Node, node}
-use Rattle.cfarm_build_turns.specs.Nodes.{AreBack, failed_of}
+use Rattle.cfarm_build_turns.specs.Nodes.{AreBack, NodesMetTwice, failed_of}
 use Rattle.cfarm_build_turns.specs.FarmNode.{FarmNode}
 use Rattle.cfarm_build_turns.specs.Resting.{Resting}
 use Rattle.cfarm_build_turns.specs.Voted.{AreVotedFor}
@@ -21,7 +22,7 @@ abbrev pub nodes_seen : {D O H : Type 0} {h : naming.Ghosts H} → List (FarmNod
 nodes_seen nodes = map (λ n. node n.log n.seats.items n.halted) nodes
 
 -- The source is compiled by these nodes, which opened over the pairs of disks, with quorums of these sizes. None of them failed. Each two neighbours
--- met, and all functions were counted: what every node links is one program, which keeps the meaning of the C program, and the bytes are its
+-- met, forth and back, and all functions were counted: what every node links is one program, which keeps the meaning of the C program, and the bytes are its
 -- text. What is linked was voted for: in each room of each node by an accept quorum. Each node's disk holds its journal.
 pub record IsBuilt {D : Type 0} (disk : disks.Ghosts D) (pair : pairs.Ghosts D) (q : Sizes) (seed turns : ℕ) (source : Source) (given : List D)
     {H : Type 0} {h : naming.Ghosts H} (nodes : List (Resting D H h)) (built : Built) : Type 0 where
@@ -29,6 +30,8 @@ pub record IsBuilt {D : Type 0} (disk : disks.Ghosts D) (pair : pairs.Ghosts D) 
   pub ran : List (Resting D H h)
   pub back : AreBack disk pair q source given seed turns begun ran nodes
   pub going : failed_of ran ≡ None
+  pub asked : AllByRecursion (MayBeAsked disk) ran
+  pub twice : NodesMetTwice ran nodes
   pub voted : AllByRecursion (λ n. AreVotedFor q n.seats.items) nodes
   pub makes : IsBuiltBy source (nodes_seen nodes) built
 

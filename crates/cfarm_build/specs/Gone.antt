@@ -11,7 +11,7 @@ use Rattle.cfarm_build_linking.specs.Refused.{IsRefusedBy}
 use Rattle.cfarm_build_turns.specs.Asked.{MayBeAsked}
 use Rattle.cfarm_build_turns.specs.CameBackNodes.{NodeCameBack}
 use Rattle.cfarm_build_turns.specs.FarmNode.{FarmNode}
-use Rattle.cfarm_build_turns.specs.Nodes.{AreMissed, NodeStays, failed_of}
+use Rattle.cfarm_build_turns.specs.Nodes.{AreMissed, NodeStays, NodesMetTwice, failed_of}
 use Rattle.cfarm_build.specs.Built.{Built, nodes_seen}
 
 module _ {D O H : Type 0} {h : naming.Ghosts H} where
@@ -35,5 +35,5 @@ module _ {D O H : Type 0} {h : naming.Ghosts H} where
     pub turned : AllZip (NodeCameBack disk turns) begun ran
     pub fit : AllByRecursion (MayBeAsked disk) ran
     pub met : AllZip (NodeStays disk) ran nodes
-    pub makes : IfOk made (λ built. (failed_of ran ≡ None) × IsBuiltBy source (nodes_seen nodes) built)
+    pub makes : IfOk made (λ built. (failed_of ran ≡ None) × IsBuiltBy source (nodes_seen nodes) built × NodesMetTwice ran nodes)
     pub makes_not : IfErr made (IsUnmade source ran nodes)

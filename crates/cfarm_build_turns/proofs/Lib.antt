@@ -1,6 +1,6 @@
-pub mod Counting
-mod Lowest
+pub mod Lowest
 pub mod NodesRest
 pub mod Turning
 pub mod Voted
 pub use Rattle.cfarm_build_result.proofs.Zips
+pub use Rattle.cfarm_build_meeting.proofs.Counting

@@ -2,7 +2,7 @@
 use Rattle.std.proofs.Common.{◌≡◌, ℕ, zero, suc, List, [], ◌∷◌, map, length, None, refl, sym, ap, subst, subst₂, ◌∙◌, arith}
 use Rattle.std.specs.Arc.{arc_value}
 use Rattle.std.specs.Coded.{Coded-set, coded_ℕ}
-use Rattle.std.specs.List.{AllZip}
+use Rattle.std.specs.List.{AllByRecursion, AllZip}
 use Rattle.std.proofs.lemmas.List.{length-map}
 use Rattle.std.proofs.lemmas.Option.{slice_get-map}
 use Rattle.std.specs.Prelude.{option_map}
@@ -10,6 +10,8 @@ use Rattle.durable_model.specs.declared.disk.Disk as disks
 use Rattle.durable_pair.specs.declared.pair.Pair as pairs
 use Rattle.rooms_hall.specs.declared.hall.Naming as naming
 use Rattle.cfarm_build_faults.specs.After.{After}
+use Rattle.farm_nodes_turn_node.specs.Asked.{MayBeAsked}
+use Rattle.farm_nodes_turn_node.specs.Fours.{fours_of}
 use Rattle.farm_nodes_turn_node.specs.declared.farm_node.FarmNode.{FarmNode}
 use Rattle.farm_nodes_turn_node.proofs.Places.{mapped}
 use Rattle.farm_nodes_turn_node.specs.Held.{fault_in}
@@ -21,7 +23,8 @@ use Rattle.cfarm_build_faults.specs.Back.{AreJournalsOn}
 use Rattle.cfarm_build_faults.specs.Opened.{AreOpenFromJournals}
 use Rattle.cfarm_build_faults.specs.Nodes.{NodeCameBack}
 use Rattle.cfarm_build_faults.specs.OneTurn.{TakesTurn}
-use Rattle.cfarm_build_turns.specs.Nodes.{AllHold, AreBack, HasStopped, HaveOpened, HoldsJournal, NodeStays, failed_of, lowest_failed}
+use Rattle.cfarm_build_meeting.specs.Twice.{HaveMetTwice}
+use Rattle.cfarm_build_turns.specs.Nodes.{AllHold, AreBack, HasStopped, HaveOpened, HoldsJournal, NodeStays, NodesMetTwice, failed_of, lowest_failed}
 use Rattle.cfarm_build_turns.specs.Resting.{Resting, rested}
 
 pub nothing_left : {A : Type 0} (xs : List A) → length xs ≡ 0 → xs ≡ []
@@ -133,3 +136,15 @@ module _ {D O H : Type 0} {h : naming.Ghosts H} (disk : disks.Ghosts D) where
 -- the first that failed
 pub failed_at_rest : {D O H : Type 0} {h : naming.Ghosts H} (nodes : List (FarmNode D O H h)) → failed_of (map (λ n. rested n) nodes) ≡ failed_of nodes
 failed_at_rest {D} {O} {H} {h} nodes = ap (λ l. lowest_failed 0 l) (map_twice (λ (n : FarmNode D O H h). rested n) (λ n. fault_in n.halted) nodes)
+
+-- those that met, forth and back
+pub twice_at_rest : {D O H : Type 0} {h : naming.Ghosts H} (old new : List (FarmNode D O H h)) → NodesMetTwice old new
+    → NodesMetTwice (map (λ n. rested n) old) (map (λ n. rested n) new)
+twice_at_rest {D} {O} {H} {h} old new met =
+    subst₂ (λ a b. HaveMetTwice a b) (sym (map_twice (λ (n : FarmNode D O H h). rested n) (λ n. fours_of n.seats.items) old))
+    (sym (map_twice (λ (n : FarmNode D O H h). rested n) (λ n. fours_of n.seats.items) new)) met
+
+-- those that may be asked
+pub asked_at_rest : {D O H : Type 0} {h : naming.Ghosts H} (disk : disks.Ghosts D) (nodes : List (FarmNode D O H h)) → AllByRecursion (MayBeAsked disk) nodes
+    → AllByRecursion (MayBeAsked disk) (map (λ n. rested n) nodes)
+asked_at_rest {D} {O} {H} {h} disk nodes all = all_mapped (λ (n : FarmNode D O H h). rested n) (λ n. MayBeAsked disk n) nodes all

@@ -86,7 +86,7 @@ module _ {D O H : Type 0} {h : naming.Ghosts H} (disk : disks.Ghosts D) where
     fit = λ s. s;
   }
 
-  stays_through : (x y z : FarmNode D O H h) → NodeStays disk x y → NodeStays disk y z → NodeStays disk x z
+  pub stays_through : (x y z : FarmNode D O H h) → NodeStays disk x y → NodeStays disk y z → NodeStays disk x z
   stays_through x y z p q = record {
     program = q.program ∙ p.program;
     log = q.log ∙ p.log;

@@ -18,7 +18,7 @@ use Rattle.farm_nodes_turn_node.specs.Asked.{MayBeAsked}
 use Rattle.farm_nodes_turn_node.specs.Fours.{four_of, words_of}
 use Rattle.farm_nodes_turn_node.specs.NumberedSeat.{NumberedSeat}
 use Rattle.farm_nodes_turn_node.specs.Numbers.{function_of, pass_of}
-use Rattle.farm_nodes_turn_node.specs.SeatState.{SeatState, seen_world}
+use Rattle.farm_nodes_turn_node.specs.SeatState.{seen_world}
 use Rattle.farm_nodes_turn_node.specs.declared.farm_node.FarmNode.{FarmNode}
 use Rattle.cfarm_build_result.specs.Source.{Source}
 use Rattle.cfarm_build_turns.specs.Nodes.{AllHold}

@@ -1,5 +1,5 @@
 -- The nodes of a farm, from their disks to the end of their turns, and behind their meetings.
-use Rattle.std.specs.Prelude.{◌≡◌, ◌≤◌, ◌↔◌, ℕ, zero, suc, List, [], ◌∷◌, length, map, Option, Some, None, slice_get}
+use Rattle.std.specs.Prelude.{◌≡◌, ◌≤◌, ◌↔◌, ℕ, suc, List, [], ◌∷◌, length, map, Option, Some, None, slice_get}
 use Rattle.std.specs.Arc.{arc_value}
 use Rattle.std.specs.List.{AllByRecursion, AllZip}
 use Rattle.lang_base.specs.declared.program.Program.{Program}
@@ -9,13 +9,12 @@ use Rattle.durable_pair.specs.declared.pair.Pair as pairs
 use Rattle.rooms_hall.specs.declared.hall.Naming as naming
 use Rattle.farm_nodes_turn_offer.specs.declared.halt.Fault.{Fault}
 use Rattle.farm_nodes_turn_node.specs.Fours.{fours_of}
-use Rattle.farm_nodes_turn_node.specs.NumberedSeat.{NumberedSeat}
 use Rattle.farm_nodes_turn_node.specs.Asked.{MayBeAsked}
 use Rattle.farm_nodes_turn_node.specs.declared.farm_node.FarmNode.{FarmNode}
 use Rattle.farm_nodes_turn_node.specs.Held.{fault_in}
 use Rattle.cfarm_build_result.specs.Source.{Source}
 use Rattle.paxos_core_world.specs.Quorum.{Sizes}
-use Rattle.cfarm_build_result.specs.Alike.{HaveCounted, HaveMissed, KeepsLearned}
+use Rattle.cfarm_build_result.specs.Alike.{KeepsLearned}
 use Rattle.cfarm_build_result.specs.Going.{SeatsGoOn}
 use Rattle.cfarm_build_result.specs.Learned.{learned_by}
 use Rattle.cfarm_build_faults.specs.Nodes.{NodeCameBack}
@@ -23,6 +22,8 @@ use Rattle.cfarm_build_faults.specs.Stopped.{IsStoppedFor}
 use Rattle.cfarm_build_faults.specs.Words.{generators}
 use Rattle.cfarm_build_faults.specs.Back.{AreJournalsOn}
 use Rattle.cfarm_build_faults.specs.Opened.{AreOpenFromJournals}
+pub use Rattle.cfarm_build_meeting.specs.Counted.{AreCountedAt, AreMissed}
+use Rattle.cfarm_build_meeting.specs.Twice.{HaveMetTwice, seats_in}
 
 -- a program of as many functions at most as a text that was made ready has
 abbrev pub HasFewFunctions : Program FunctionData → Type 0
@@ -39,20 +40,6 @@ pub record NodeStays {D O H : Type 0} {h : naming.Ghosts H} (disk : disks.Ghosts
   pub learned_still : KeepsLearned (learned_by n.seats.items) (learned_by m.seats.items)
   pub fit : MayBeAsked disk n → MayBeAsked disk m
 
--- The node of this number and the one behind it met, and all functions were counted.
-abbrev pub AreCountedAt : {N H : Type 0} {h : naming.Ghosts H} → (N → List (NumberedSeat H h)) → List N → ℕ → Type 0
-AreCountedAt {N} seats nodes number =
-    (n m : N) → slice_get nodes number ≡ Some n → slice_get nodes (suc number) ≡ Some m → HaveCounted (seats n) (seats m)
-
--- The node of this number met the one behind it last of all, and not all functions of both were counted.
-pub record AreMissed {N H : Type 0} {h : naming.Ghosts H} (seats : N → List (NumberedSeat H h)) (nodes : List N) : Type 0 where
-  pub number : ℕ
-  pub node : N
-  pub next : N
-  pub there : slice_get nodes number ≡ Some node
-  pub behind : slice_get nodes (suc number) ≡ Some next
-  pub missed : HaveMissed (seats node) (seats next)
-
 -- the lowest node that a fault stopped, and the fault; the first one has this number
 abbrev pub lowest_failed : ℕ → List (Option Fault) → Option (ℕ × Fault)
 lowest_failed number [] = None
@@ -62,6 +49,10 @@ lowest_failed number (Some fault ∷ faults) = Some (number, fault)
 module _ {D O H : Type 0} {h : naming.Ghosts H} where
   abbrev pub failed_of : List (FarmNode D O H h) → Option (ℕ × Fault)
   failed_of nodes = lowest_failed 0 (map (λ n. fault_in n.halted) nodes)
+
+  -- Each two neighbours met, from the first node to the last, and again on the way back, on which the last node learned nothing more.
+  abbrev pub NodesMetTwice : List (FarmNode D O H h) → List (FarmNode D O H h) → Type 0
+  NodesMetTwice old new = HaveMetTwice (seats_in (λ n. n.seats.items) old) (seats_in (λ n. n.seats.items) new)
 
   module _ (disk : disks.Ghosts D) (pair : pairs.Ghosts D) (q : Sizes) (source : Source) (given : List D) where
     -- The nodes opened on these pairs of disks, with quorums of these sizes and the generators of the seed; nothing has stopped one.

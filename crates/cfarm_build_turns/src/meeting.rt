@@ -5,7 +5,9 @@ ghost use Rattle.std.specs.Arc.{arc_value};
 ghost use Rattle.std.specs.List.{AllByRecursion, AllZip};
 ghost use Rattle.cfarm_build_result.specs.Alike.{HaveCounted};
 ghost use Rattle.cfarm_build_result.specs.Neighbours.{EachTwo};
-ghost use Rattle.cfarm_build_turns.specs.Nodes.{AreCountedAt, AreMissed, HasFewFunctions, NodeStays};
+ghost use Rattle.cfarm_build_meeting.specs.Counted.{AreCountedAt, AreMissed};
+ghost use Rattle.cfarm_build_meeting.specs.Twice.{MeetAt};
+ghost use Rattle.cfarm_build_turns.specs.Nodes.{HasFewFunctions, NodeStays, NodesMetTwice};
 
 use cfarm_build_faults::meet;
 use durable_model::Disk;
@@ -27,6 +29,7 @@ fn meet_at<D: Disk, O, H: Naming>(nodes: &mut [FarmNode<D, O, H>], number: usize
     requires going { AllByRecursion (λ n. n.halted ≡ None) nodes.old }
     requires few { AllByRecursion (λ n. HasFewFunctions (arc_value n.program)) nodes.old }
     ensures stay { AllZip (NodeStays D.Disk) nodes.old nodes.new }
+    ensures met { MeetAt (λ n. n.seats.items) nodes.old nodes.new number }
     ensures counted { IsTrue result → AreCountedAt (λ n. n.seats.items) nodes.new number }
     ensures missed { (IsTrue result → ⊥) → AreMissed (λ n. n.seats.items) nodes.new }
 {
@@ -38,16 +41,22 @@ fn meet_at<D: Disk, O, H: Naming>(nodes: &mut [FarmNode<D, O, H>], number: usize
 }
 
 /// Each two neighbours meet, from the first node to the last, and again on the way back: so node 0 hears what the last node knows.
-/// Answers whether on the way back all functions were counted; at the first two whose were not it ends.
+/// Answers whether all functions were counted, of the last two on the way there, and of each two on the way back; at the first two whose were
+/// not it ends.
 pub(crate) fn meet_neighbours<D: Disk, O, H: Naming>(nodes: &mut [FarmNode<D, O, H>]) -> bool
     requires going { AllByRecursion (λ n. n.halted ≡ None) nodes.old }
     requires few { AllByRecursion (λ n. HasFewFunctions (arc_value n.program)) nodes.old }
     ensures stay { AllZip (NodeStays D.Disk) nodes.old nodes.new }
+    ensures twice { IsTrue result → NodesMetTwice nodes.old nodes.new }
     ensures counted { IsTrue result → EachTwo (λ n m. HaveCounted n.seats.items m.seats.items) nodes.new }
     ensures missed { (IsTrue result → ⊥) → AreMissed (λ n. n.seats.items) nodes.new }
 {
+    let mut counted = true;
     for next in 1..nodes.len() {
-        let _counted = meet_at(nodes, next - 1);
+        counted = meet_at(nodes, next - 1);
+    }
+    if !counted {
+        return false;
     }
     let count = nodes.len();
     for done in 1..count {

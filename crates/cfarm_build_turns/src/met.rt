@@ -6,7 +6,7 @@ ghost use Rattle.std.specs.List.{AllByRecursion, AllZip};
 ghost use Rattle.cfarm_build_result.specs.Alike.{HaveCounted};
 ghost use Rattle.cfarm_build_result.specs.Neighbours.{EachTwo};
 ghost use Rattle.farm_nodes_threads_teams.specs.Back.{nodes_of};
-ghost use Rattle.cfarm_build_turns.specs.Nodes.{HasFewFunctions, NodeStays, failed_of};
+ghost use Rattle.cfarm_build_turns.specs.Nodes.{HasFewFunctions, NodeStays, NodesMetTwice, failed_of};
 ghost use Rattle.cfarm_build_turns.specs.Unmet.{IsUnmet};
 
 use crate::failing::first_failed;
@@ -24,6 +24,7 @@ pub fn met_all<D: Disk + Drop, O: Drop, H: Naming>(
     requires few { AllByRecursion (λ n. HasFewFunctions (arc_value n.program)) nodes.items }
     ensures going { OnOk result (failed_of nodes.items ≡ None) }
     ensures stay { AllZip (NodeStays D.Disk) nodes.items (nodes_of result).items }
+    ensures twice { IfOk result (λ met. NodesMetTwice nodes.items met.items) }
     ensures counted { IfOk result (λ met. EachTwo (λ n m. HaveCounted n.seats.items m.seats.items) met.items) }
     ensures refused { IfErr result (λ told. IsUnmet nodes.items told.0.items told.1) }
 {

@@ -50,5 +50,5 @@ built_by-made-requires-clause-program g c =
 pub returns-clause-gone : goal.returns-clause-gone
 returns-clause-gone g c =
     gone_met g.D.Disk c.args.turns c.args.source.now c.args.nodes.items c.in-Ok.nodes.items c.in-Ok.ensures.came c.in-Ok.ensures.fit
-    c.in-Ok-met_all.nodes.items c.deref.result.now c.deref.ensures.value c.in-Ok-met_all.ensures.stay c.in-Ok-met_all.ensures.going
+    c.in-Ok-met_all.nodes.items c.deref.result.now c.deref.ensures.value c.in-Ok-met_all.ensures.stay c.in-Ok-met_all.ensures.going c.in-Ok-met_all.ensures.twice
     c.built_by-made.result c.built_by-made.ensures.built c.built_by-made.ensures.refused

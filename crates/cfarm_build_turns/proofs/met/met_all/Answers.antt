@@ -1,11 +1,11 @@
 -- What met in place.
-use Rattle.std.proofs.Common.{◌≡◌, None, refl, sym, ap, subst, ◌∙◌, true≢false}
+use Rattle.std.proofs.Common.{◌≡◌, None, refl, sym, ap, subst, subst₂, ◌∙◌, true≢false}
 use Rattle.std.specs.Arc.{arc_value}
 use Rattle.std.specs.List.{AllByRecursion}
 use Rattle.cfarm_build_result.specs.Alike.{HaveCounted}
 use Rattle.cfarm_build_result.specs.Neighbours.{EachTwo}
 use Rattle.cfarm_build_result.proofs.Zips.{all_same}
-use Rattle.cfarm_build_turns.specs.Nodes.{AreMissed, HasFewFunctions, NodeStays, failed_of}
+use Rattle.cfarm_build_turns.specs.Nodes.{AreMissed, HasFewFunctions, NodeStays, NodesMetTwice, failed_of}
 use Rattle.cfarm_build_turns.proofs.Lowest.{all_going}
 use Rattle.cfarm_build_turns.proofs.Turning.{meets_none, meets_there, new_there}
 use Rattle.cfarm_build_turns.proofs.met.met_all.Goals as goal
@@ -56,3 +56,10 @@ returns-clause-counted g c =
     c.args.nodes.len c.args.nodes.items c.deref_mut.result.now c.meet_neighbours.new.nodes _ c.deref_mut.ensures.value
     c.args.nodes.ok.0 refl c.meet_neighbours.ensures.stay in
     subst (λ l. EachTwo (λ n m. HaveCounted n.seats.items m.seats.items) l) (sym same) (c.meet_neighbours.ensures.counted c.if-not-meet_neighbours.false)
+
+pub returns-clause-twice : goal.returns-clause-twice
+returns-clause-twice g c =
+    let same = new_there g.D.Disk
+    c.args.nodes.len c.args.nodes.items c.deref_mut.result.now c.meet_neighbours.new.nodes _ c.deref_mut.ensures.value
+    c.args.nodes.ok.0 refl c.meet_neighbours.ensures.stay in
+    subst₂ (λ l r. NodesMetTwice l r) c.deref_mut.ensures.value (sym same) (c.meet_neighbours.ensures.twice c.if-not-meet_neighbours.false)

@@ -1,5 +1,5 @@
 -- Neighbours of whom all functions were counted, one more at a time, from the last back to the first.
-use Rattle.std.proofs.Common.{◌≡◌, ◌≢◌, ℕ, zero, suc, ◌+◌, ◌<◌, ◌≤◌, List, [], ◌∷◌, map, length, Option, Some, refl, sym, ap, subst, subst₂, ◌∙◌, arith, inl, inr}
+use Rattle.std.proofs.Common.{◌≡◌, ℕ, suc, ◌+◌, ◌≤◌, List, map, length, Option, Some, sym, ap, subst, subst₂, ◌∙◌, arith, inl, inr}
 use Rattle.std.specs.List.{AllZip}
 use Rattle.std.specs.Prelude.{option_map, slice_get}
 use Rattle.std.proofs.lemmas.Bool.{cases_eq}
@@ -14,7 +14,7 @@ use Rattle.farm_nodes_turn_node.specs.NumberedSeat.{NumberedSeat}
 use Rattle.cfarm_build_result.specs.Going.{SeatsGoOn}
 use Rattle.cfarm_build_result.proofs.Alike.{counted_now, keeps_through}
 use Rattle.cfarm_build_result.proofs.Going.{go_through}
-use Rattle.cfarm_build_turns.specs.Nodes.{AreCountedAt, AreMissed}
+use Rattle.cfarm_build_meeting.specs.Counted.{AreCountedAt, AreMissed}
 use Rattle.cfarm_build_result.proofs.Zips.{as_long, zipped}
 
 one_item : {S : Type 0} (o : Option S) (x y : S) → o ≡ Some x → o ≡ Some y → x ≡ y

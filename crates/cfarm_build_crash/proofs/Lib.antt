@@ -1,0 +1,5 @@
+mod Nodes
+mod Left
+mod Numbers
+mod Offers
+mod Linking

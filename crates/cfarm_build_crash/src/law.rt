@@ -1,0 +1,47 @@
+ghost use Rattle.cfarm_build_crash.specs.Again.{BuildLinksAgain, BuildOpensAgain};
+
+use alloc_check::Alloc;
+use cfarm_build_turns::{Built, FarmNode};
+use constprop_check::ConstProp;
+use cse_check::Cse;
+use durable_pair::Pair;
+use farm_nodes_source::Source;
+use farm_nodes_turn_node::NumberedSeat;
+use linearize_check::Linearize;
+use offers::one_text;
+use paxos_core_world::quorum::Quorums;
+use rooms_hall::Naming;
+
+/// What a crash of all nodes that a build gave back leaves on their pairs of disks is refused neither with 401 to 404, but for want of memory or
+/// where a device fails, nor with 510; it does nothing.
+pub fn opens_again<D: Pair, H: Naming>(
+    quorums: Quorums,
+    source: &Source,
+    given: &[D],
+    nodes: &[FarmNode<D, (), H>],
+    built: &Built,
+    left: &[D],
+)
+    ensures { BuildOpensAgain D.Disk D.Pair.own quorums source.now given.now nodes.now built.now left.now }
+{
+    let _count = quorums.nodes();
+}
+
+/// What a node links of a farm that opened over that, whatever it did since, is what was built; it does nothing.
+pub fn links_again<D: Pair, H: Naming, L: Naming>(
+    quorums: Quorums,
+    source: &Source,
+    given: &[D],
+    nodes: &[FarmNode<D, (), H>],
+    built: &Built,
+    left: &[D],
+    later: &[NumberedSeat<L>],
+)
+    ensures { BuildLinksAgain D.Disk D.Pair.own quorums source.now given.now nodes.now built.now left.now later.now }
+{
+    let _count = quorums.nodes();
+    one_text::<ConstProp>();
+    one_text::<Cse>();
+    one_text::<Alloc>();
+    one_text::<Linearize>();
+}

@@ -1,0 +1,6 @@
+//! What a crash leaves of the nodes that `build` gives back: it opens again, and links the same program.
+#![tactic(auto)]
+
+mod law;
+
+pub use law::{links_again, opens_again};
