@@ -8,5 +8,5 @@ mod telling;
 
 pub use error::BuildError;
 pub use farm_nodes::{
-    Farm, OpenFault, Optimisers, Optimising, SourceFault, meet, optimisers_of, run_threads,
+    Farm, OpenFault, Optimisers, Optimising, SourceFault, meet_nodes, optimisers_of, run_threads,
 };

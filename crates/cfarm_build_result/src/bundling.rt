@@ -13,11 +13,11 @@ use rooms_hall::Naming;
 use std::alloc::Global;
 
 /// The texts of the four offers of a function, all of which are learned and seen.
-fn texts_at<H: Naming>(alloc: Global, seats: &NumberedSeat<H>) -> Result<Texts, NoMemory>
-    requires { IsSome (learned_four seats.now) }
-    ensures { IfOk result (AreTextsAt (learned_four seats.now)) }
+fn texts_at<H: Naming>(alloc: Global, numbered: &NumberedSeat<H>) -> Result<Texts, NoMemory>
+    requires { IsSome (learned_four numbered.now) }
+    ensures { IfOk result (AreTextsAt (learned_four numbered.now)) }
 {
-    match chain_of(seats) {
+    match chain_of(numbered) {
         Some(chain) => texts_of(alloc, &chain),
         None => unreachable!(),
     }

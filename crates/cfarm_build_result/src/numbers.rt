@@ -9,7 +9,7 @@ ghost use Rattle.cfarm_build_result.specs.Told.{AreTold, TellsRooms, function_na
 
 use crate::function::FunctionRooms;
 use c_checker_rules::CProgram;
-use farm_nodes_link::{NumberedSeat, has_learned_all};
+use farm_nodes_link::{NumberedSeat, has_learned_function};
 use farm_nodes_source::name_of;
 use lang_base::NoMemory;
 use rooms_hall::Naming;
@@ -21,26 +21,26 @@ pub fn linked_functions<H: Naming>(seats: &[NumberedSeat<H>]) -> usize
 {
     let mut linked = 0;
     for function in 0..seats.len() {
-        linked += usize::from(has_learned_all(&seats[function]));
+        linked += usize::from(has_learned_function(&seats[function]));
     }
     linked
 }
 
 /// What is told of a function of this name: the four numbers, where all are learned.
-fn told<H: Naming>(name: String, seats: &NumberedSeat<H>) -> FunctionRooms
-    requires { IsSome (learned_four seats.now) }
-    ensures { TellsRooms (string_bytes name) seats.now result }
+fn told<H: Naming>(name: String, numbered: &NumberedSeat<H>) -> FunctionRooms
+    requires { IsSome (learned_four numbered.now) }
+    ensures { TellsRooms (string_bytes name) numbered.now result }
 {
-    let Some(first) = seats.seat.first.learned() else {
+    let Some(first) = numbered.seat.first.learned() else {
         unreachable!();
     };
-    let Some(second) = seats.seat.second.learned() else {
+    let Some(second) = numbered.seat.second.learned() else {
         unreachable!();
     };
-    let Some(third) = seats.seat.third.learned() else {
+    let Some(third) = numbered.seat.third.learned() else {
         unreachable!();
     };
-    let Some(fourth) = seats.seat.fourth.learned() else {
+    let Some(fourth) = numbered.seat.fourth.learned() else {
         unreachable!();
     };
     FunctionRooms {

@@ -4,15 +4,15 @@ use farm_nodes_turn_node::NumberedSeat;
 use rooms_hall::Naming;
 
 /// Whether in all four rooms of a function a value is learned.
-fn has_learned<H: Naming>(seats: &NumberedSeat<H>) -> bool {
-    seats.seat.first.learned().is_some()
-        && seats.seat.second.learned().is_some()
-        && seats.seat.third.learned().is_some()
-        && seats.seat.fourth.learned().is_some()
+fn has_learned<H: Naming>(numbered: &NumberedSeat<H>) -> bool {
+    numbered.seat.first.learned().is_some()
+        && numbered.seat.second.learned().is_some()
+        && numbered.seat.third.learned().is_some()
+        && numbered.seat.fourth.learned().is_some()
 }
 
 /// Whether in all rooms of all functions a value is learned.
-pub(crate) fn has_learned_all<H: Naming>(seats: &[NumberedSeat<H>]) -> bool {
+pub(crate) fn have_learned_all<H: Naming>(seats: &[NumberedSeat<H>]) -> bool {
     for function in 0..seats.len() {
         if !has_learned(&seats[function]) {
             return false;
@@ -22,11 +22,11 @@ pub(crate) fn has_learned_all<H: Naming>(seats: &[NumberedSeat<H>]) -> bool {
 }
 
 /// In how many of the four rooms of a function a value is learned.
-fn learned_in<H: Naming>(seats: &NumberedSeat<H>) -> usize {
-    usize::from(seats.seat.first.learned().is_some())
-        .saturating_add(usize::from(seats.seat.second.learned().is_some()))
-        .saturating_add(usize::from(seats.seat.third.learned().is_some()))
-        .saturating_add(usize::from(seats.seat.fourth.learned().is_some()))
+fn learned_in<H: Naming>(numbered: &NumberedSeat<H>) -> usize {
+    usize::from(numbered.seat.first.learned().is_some())
+        .saturating_add(usize::from(numbered.seat.second.learned().is_some()))
+        .saturating_add(usize::from(numbered.seat.third.learned().is_some()))
+        .saturating_add(usize::from(numbered.seat.fourth.learned().is_some()))
 }
 
 /// In how many rooms of all functions a value is learned.

@@ -9,7 +9,7 @@ ghost use Rattle.cfarm_build_meeting.specs.Counted.{AreCountedAt, AreMissed};
 ghost use Rattle.cfarm_build_meeting.specs.Twice.{MeetAt};
 ghost use Rattle.cfarm_build_turns.specs.Nodes.{HasFewFunctions, NodeStays, NodesMetTwice};
 
-use cfarm_build_faults::meet;
+use cfarm_build_faults::meet_nodes;
 use durable_model::Disk;
 use farm_nodes_turn_node::FarmNode;
 use rooms_hall::Naming;
@@ -36,7 +36,7 @@ fn meet_at<D: Disk, O, H: Naming>(nodes: &mut [FarmNode<D, O, H>], number: usize
     let (front, back) = nodes.split_at_mut(number + 1);
     let first = &mut front[number];
     let second = &mut back[0];
-    let count = meet(first, second);
+    let count = meet_nodes(first, second);
     is_all(count, first.seats.len(), second.seats.len())
 }
 

@@ -7,7 +7,7 @@ ghost use Rattle.farm_nodes_turn_node.specs.Asked.{MayBeAsked};
 ghost use Rattle.cfarm_build_faults.specs.Nodes.{NodeCameBack};
 ghost use Rattle.cfarm_build_turns.specs.NotRun.{IsNotRun};
 
-use crate::learning::{has_learned_all, learned_rooms};
+use crate::learning::{have_learned_all, learned_rooms};
 use cfarm_build_faults::{BuildError, run_threads};
 use cfarm_build_result::linked_functions;
 use cfarm_options::Meter;
@@ -41,7 +41,7 @@ fn turns_of<D, O, H: Naming>(nodes: &[FarmNode<D, O, H>]) -> u64
 /// Whether no node takes turns any more: each has failed, or has learned in all its rooms.
 fn are_done<D, O, H: Naming>(nodes: &[FarmNode<D, O, H>]) -> bool {
     for number in 0..nodes.len() {
-        if nodes[number].halted.is_none() && !has_learned_all(&nodes[number].seats) {
+        if nodes[number].halted.is_none() && !have_learned_all(&nodes[number].seats) {
             return false;
         }
     }

@@ -5,7 +5,7 @@ ghost use Rattle.cfarm_settle_nodes.specs.Goes.{AreThree, SeesNoMore};
 ghost use Rattle.cfarm_settle_nodes.specs.Learned.{AreSame, IsLearnedByAll};
 
 use lang_base::Pass;
-use rooms::{Seat, meet};
+use rooms::{Seat, meet_seats};
 use rooms_seat::Meeting;
 
 /// The value that all meetings told.
@@ -36,11 +36,11 @@ pub(crate) fn agreed<P: Pass>(
     ensures second { SeesNoMore second.old second.new }
     ensures third { SeesNoMore third.old third.new }
 {
-    let first_two = meet(first, second);
+    let first_two = meet_seats(first, second);
     second.known();
-    let outer_two = meet(first, third);
+    let outer_two = meet_seats(first, third);
     first.known();
     third.known();
-    let last_two = meet(second, third);
+    let last_two = meet_seats(second, third);
     same(first_two, outer_two, last_two)
 }

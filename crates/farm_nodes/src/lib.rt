@@ -13,10 +13,10 @@ mod nodes;
 pub use error::FarmError;
 pub use farm::Farm;
 pub use farm_nodes_link::{
-    FarmNode, Halted, LinkError, LinkedError, Turn, has_learned_all, learned_offer, linked,
+    FarmNode, Halted, LinkError, LinkedError, Turn, has_learned_function, learned_offer, linked,
     one_program,
 };
-pub use farm_nodes_meet_nodes::{are_strangers, meet};
+pub use farm_nodes_meet_nodes::{are_strangers, meet_nodes};
 pub use farm_nodes_open_nodes::{OpenFault, RoomFault};
 pub use farm_nodes_restart_disks::{RestartFault, own_disk, restart};
 pub use farm_nodes_source::{Source, SourceFault, prepare};

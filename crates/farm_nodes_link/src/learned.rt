@@ -8,19 +8,19 @@ use rooms_hall::Naming;
 
 /// The four offers of a function that the node has learned, whoever made them, where it has learned and seen all four. They are
 /// lent. No word is loaded, and no cell is read.
-pub fn chain_of<H: Naming>(seats: &NumberedSeat<H>) -> Option<Chain<'_>>
-    ensures { lent result ≡ learned_four seats.now }
+pub fn chain_of<H: Naming>(numbered: &NumberedSeat<H>) -> Option<Chain<'_>>
+    ensures { lent result ≡ learned_four numbered.now }
 {
-    let Some(first) = learned_offer(&seats.seat.first) else {
+    let Some(first) = learned_offer(&numbered.seat.first) else {
         return None;
     };
-    let Some(second) = learned_offer(&seats.seat.second) else {
+    let Some(second) = learned_offer(&numbered.seat.second) else {
         return None;
     };
-    let Some(third) = learned_offer(&seats.seat.third) else {
+    let Some(third) = learned_offer(&numbered.seat.third) else {
         return None;
     };
-    let Some(fourth) = learned_offer(&seats.seat.fourth) else {
+    let Some(fourth) = learned_offer(&numbered.seat.fourth) else {
         return None;
     };
     Some(Chain {
@@ -32,10 +32,10 @@ pub fn chain_of<H: Naming>(seats: &NumberedSeat<H>) -> Option<Chain<'_>>
 }
 
 /// Whether in all four rooms of a function an offer is learned, and seen.
-pub fn has_learned_all<H: Naming>(seats: &NumberedSeat<H>) -> bool
-    ensures { result ≡ is_some (learned_four seats.now) }
+pub fn has_learned_function<H: Naming>(numbered: &NumberedSeat<H>) -> bool
+    ensures { result ≡ is_some (learned_four numbered.now) }
 {
-    chain_of(seats).is_some()
+    chain_of(numbered).is_some()
 }
 
 /// Whether in one of the rooms nothing is learned, or the learned offer is not seen.

@@ -12,7 +12,7 @@ pub use errors::LinkedError;
 pub use farm_nodes_meet_seats::{NumberedSeat, learned_offer};
 pub use farm_nodes_turn_node::{FarmNode, Halted, Turn};
 pub use laws::one_program;
-pub use learned::{chain_of, has_learned_all, is_undecided};
+pub use learned::{chain_of, has_learned_function, is_undecided};
 pub use linker::LinkError;
 pub use linking::linked;
 pub use translated::linked_translated;

@@ -5,5 +5,5 @@
 mod meeting;
 mod strangers;
 
-pub use meeting::meet;
+pub use meeting::meet_nodes;
 pub use strangers::are_strangers;

@@ -8,7 +8,7 @@ use rooms_hall::Naming;
 
 /// Two nodes meet, in all rooms of all functions. Answers how many functions both link, with all four offers seen: 0 for nodes of
 /// two farms, and where one of the two is stopped, since then no word is loaded.
-pub fn meet<D: Disk, O, H: Naming>(
+pub fn meet_nodes<D: Disk, O, H: Naming>(
     first: &mut FarmNode<D, O, H>,
     second: &mut FarmNode<D, O, H>,
 ) -> u16

@@ -3,7 +3,7 @@ ghost use Rattle.farm_nodes_meet_seats.specs.Held.{held_of};
 ghost use Rattle.farm_nodes_meet_seats.specs.Functions.{HasAll, HasMet};
 
 use crate::learned::has_learned_offer;
-use farm_nodes_turn_passes::{NumberedSeat, meet};
+use farm_nodes_turn_passes::{NumberedSeat, meet_numbered};
 use rooms_hall::Naming;
 
 /// The seats of two nodes in the four rooms of one function meet, room by room, where the rooms have one number. Answers whether both
@@ -14,22 +14,22 @@ pub fn meet_in_function<H: Naming>(
 ) -> bool
     ensures { HasMet (held_of first.old) (held_of second.old) (held_of first.new) (held_of second.new) result }
 {
-    let told = meet(first, second);
+    let told = meet_numbered(first, second);
     let both = and(has_all(first), has_all(second));
     and(told.is_some(), both)
 }
 
 /// Whether in each room of a function an offer is learned, and seen.
-fn has_all<H: Naming>(seats: &NumberedSeat<H>) -> bool
-    ensures { IsTrue result ↔ HasAll (held_of seats.now) }
+fn has_all<H: Naming>(numbered: &NumberedSeat<H>) -> bool
+    ensures { IsTrue result ↔ HasAll (held_of numbered.now) }
 {
     let early = and(
-        has_learned_offer(&seats.seat.first),
-        has_learned_offer(&seats.seat.second),
+        has_learned_offer(&numbered.seat.first),
+        has_learned_offer(&numbered.seat.second),
     );
     let late = and(
-        has_learned_offer(&seats.seat.third),
-        has_learned_offer(&seats.seat.fourth),
+        has_learned_offer(&numbered.seat.third),
+        has_learned_offer(&numbered.seat.fourth),
     );
     and(early, late)
 }

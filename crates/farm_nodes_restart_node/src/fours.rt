@@ -15,30 +15,30 @@ use std::alloc::Global;
 /// Does what is pending in the room, which is the one of this pass.
 pub(crate) fn take_in<H: Naming>(
     alloc: Global,
-    seats: &mut NumberedSeat<H>,
+    numbered: &mut NumberedSeat<H>,
     pass: Which,
     room: u16,
     pending: &Pending,
 ) -> Result<(), RestartFault>
-    requires { IsPendingWith seats.old room pass pending.now }
-    ensures ok { OnOk result (TookWith room pass pending.now seats.old seats.new) }
-    ensures err { OnErr result (four_of seats.new ≡ four_of seats.old) }
+    requires { IsPendingWith numbered.old room pass pending.now }
+    ensures ok { OnOk result (TookWith room pass pending.now numbered.old numbered.new) }
+    ensures err { OnErr result (four_of numbered.new ≡ four_of numbered.old) }
     ensures faults { IfErr result (IsTakeFault pending.now) }
 {
     match pass {
-        Which::Constants => take(alloc, &mut seats.seat.first, room, pending),
-        Which::Expressions => take(alloc, &mut seats.seat.second, room, pending),
-        Which::Allocation => take(alloc, &mut seats.seat.third, room, pending),
-        Which::Order => take(alloc, &mut seats.seat.fourth, room, pending),
+        Which::Constants => take(alloc, &mut numbered.seat.first, room, pending),
+        Which::Expressions => take(alloc, &mut numbered.seat.second, room, pending),
+        Which::Allocation => take(alloc, &mut numbered.seat.third, room, pending),
+        Which::Order => take(alloc, &mut numbered.seat.fourth, room, pending),
     }
 }
 
 /// All four forget.
-pub(crate) fn forget_in<H: Naming>(seats: &mut NumberedSeat<H>)
-    ensures { HaveForgotten (four_of seats.old) (four_of seats.new) }
+pub(crate) fn forget_in<H: Naming>(numbered: &mut NumberedSeat<H>)
+    ensures { HaveForgotten (four_of numbered.old) (four_of numbered.new) }
 {
-    forget(&mut seats.seat.first);
-    forget(&mut seats.seat.second);
-    forget(&mut seats.seat.third);
-    forget(&mut seats.seat.fourth);
+    forget(&mut numbered.seat.first);
+    forget(&mut numbered.seat.second);
+    forget(&mut numbered.seat.third);
+    forget(&mut numbered.seat.fourth);
 }

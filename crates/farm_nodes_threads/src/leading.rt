@@ -12,11 +12,11 @@ fn leads(seat: &WordSeat) -> bool {
 }
 
 /// Whether the node leads the room of one pass of the function.
-pub(crate) fn leads_in<H: Naming>(seats: &NumberedSeat<H>, pass: Which) -> bool {
+pub(crate) fn leads_in<H: Naming>(numbered: &NumberedSeat<H>, pass: Which) -> bool {
     match pass {
-        Which::Constants => leads(&seats.seat.first.words),
-        Which::Expressions => leads(&seats.seat.second.words),
-        Which::Allocation => leads(&seats.seat.third.words),
-        Which::Order => leads(&seats.seat.fourth.words),
+        Which::Constants => leads(&numbered.seat.first.words),
+        Which::Expressions => leads(&numbered.seat.second.words),
+        Which::Allocation => leads(&numbered.seat.third.words),
+        Which::Order => leads(&numbered.seat.fourth.words),
     }
 }

@@ -31,7 +31,7 @@ use std::alloc::Global;
 pub fn play_in<D: Disk, O: Oracles, H: Naming>(
     alloc: Global,
     log: &mut Log<D>,
-    seats: &mut NumberedSeat<H>,
+    numbered: &mut NumberedSeat<H>,
     pass: Which,
     room: u16,
     function: &Function,
@@ -41,30 +41,30 @@ pub fn play_in<D: Disk, O: Oracles, H: Naming>(
     requires { IsSound D.is_honest D.seen D.may_leave log.old }
     ensures served { IsServed D.is_honest D.seen D.may_leave D.faults log.old log.new }
     ensures going { IfOk result (λ progress. log.new.going ≡ log.old.going) }
-    ensures stays { StaysIn pass (four_of seats.old) (four_of seats.new) }
+    ensures stays { StaysIn pass (four_of numbered.old) (four_of numbered.new) }
 
     // The seats of the other passes are as they were, and the rooms keep their number.
-    ensures others { OthersStay pass (four_of seats.old) (four_of seats.new) }
+    ensures others { OthersStay pass (four_of numbered.old) (four_of numbered.new) }
 
     // An offer of the first pass goes on from the function, one of another from the output learned in the pass before.
-    ensures made { IsMadeIn function.now pass (four_of seats.old) (four_of seats.new) }
+    ensures made { IsMadeIn function.now pass (four_of numbered.old) (four_of numbered.new) }
 
     // What stands after it, and what it draws.
-    ensures after { OnOk result (StandsAfter pass draws.old draws.new (four_of seats.old) (four_of seats.new)) }
-    ensures draws { DrawsIn pass draws.old draws.new (four_of seats.old) (four_of seats.new) }
+    ensures after { OnOk result (StandsAfter pass draws.old draws.new (four_of numbered.old) (four_of numbered.new)) }
+    ensures draws { DrawsIn pass draws.old draws.new (four_of numbered.old) (four_of numbered.new) }
 
     // Where it halts it had not done what is pending.
-    ensures left { IfErr result (λ halt. HasPending seats.new room pass halt.pending) }
+    ensures left { IfErr result (λ halt. HasPending numbered.new room pass halt.pending) }
 
     // What it tells is what it learned, and whether the journal has more records.
-    ensures journal { LogsTurnIn D.Disk pass log.old log.new room seats.old seats.new result }
-    ensures cause { HaltsInPass D.Disk function.now pass log.old log.new room seats.old seats.new result }
+    ensures journal { LogsTurnIn D.Disk pass log.old log.new room numbered.old numbered.new result }
+    ensures cause { HaltsInPass D.Disk function.now pass log.old log.new room numbered.old numbered.new result }
 {
     match pass {
         Which::Constants => play_first(
             alloc,
             log,
-            &mut seats.seat.first,
+            &mut numbered.seat.first,
             room,
             function,
             &mut ConstantsOf(oracles),
@@ -73,8 +73,8 @@ pub fn play_in<D: Disk, O: Oracles, H: Naming>(
         Which::Expressions => play_behind(
             alloc,
             log,
-            &seats.seat.first,
-            &mut seats.seat.second,
+            &numbered.seat.first,
+            &mut numbered.seat.second,
             room,
             &mut ExpressionsOf(oracles),
             draws,
@@ -82,8 +82,8 @@ pub fn play_in<D: Disk, O: Oracles, H: Naming>(
         Which::Allocation => play_behind(
             alloc,
             log,
-            &seats.seat.second,
-            &mut seats.seat.third,
+            &numbered.seat.second,
+            &mut numbered.seat.third,
             room,
             &mut AllocationOf(oracles),
             draws,
@@ -91,8 +91,8 @@ pub fn play_in<D: Disk, O: Oracles, H: Naming>(
         Which::Order => play_behind(
             alloc,
             log,
-            &seats.seat.third,
-            &mut seats.seat.fourth,
+            &numbered.seat.third,
+            &mut numbered.seat.fourth,
             room,
             &mut OrderOf(oracles),
             draws,

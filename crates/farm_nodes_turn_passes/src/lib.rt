@@ -11,6 +11,6 @@ pub use oracles::{AllocationOf, ConstantsOf, ExpressionsOf, Oracles, OrderOf};
 pub use passes::Passes;
 pub use rooms_numbered::{
     Alloc, ConstProp, EquationLists, FunctionOffers, FunctionRoom, FunctionSeat, Linearize,
-    NumberedSeat, Unopened, meet,
+    NumberedSeat, Unopened, meet_numbered,
 };
 pub use which::Which;

@@ -10,7 +10,7 @@ mod room;
 mod seat;
 
 pub use error::RoomError;
-pub use meeting::meet;
+pub use meeting::meet_seats;
 pub use room::{Room, seats_of};
 pub use rooms_cells::Put;
 pub use rooms_seat::act::SeatAct;

@@ -12,7 +12,7 @@ mod words;
 pub use alloc_check::{Alloc, EquationLists};
 pub use constprop_check::{ConstProp, FactLists};
 pub use linearize_check::{Function, Linearize, Order};
-pub use meeting::{FunctionMeeting, meet};
+pub use meeting::{FunctionMeeting, meet_functions};
 pub use offered::{ChainOffer, SeenOffer};
 pub use opening::{FunctionOffers, FunctionRoom, Unopened};
 pub use seat::FunctionSeat;

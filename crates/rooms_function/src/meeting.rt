@@ -13,7 +13,7 @@ pub struct FunctionMeeting {
 }
 
 /// Two seats of one function tell each other what they have seen, pass by pass, and each loads every word of the table once.
-pub fn meet(first: &mut FunctionSeat, second: &mut FunctionSeat) -> FunctionMeeting
+pub fn meet_functions(first: &mut FunctionSeat, second: &mut FunctionSeat) -> FunctionMeeting
     requires { IsOneFunction first.old second.old }
     ensures first { Met result.first first.old.first second.old.first first.new.first second.new.first }
     ensures second { Met result.second first.old.second second.old.second first.new.second second.new.second }
@@ -21,9 +21,9 @@ pub fn meet(first: &mut FunctionSeat, second: &mut FunctionSeat) -> FunctionMeet
     ensures fourth { Met result.fourth first.old.fourth second.old.fourth first.new.fourth second.new.fourth }
 {
     FunctionMeeting {
-        first: rooms::meet(&mut first.first, &mut second.first),
-        second: rooms::meet(&mut first.second, &mut second.second),
-        third: rooms::meet(&mut first.third, &mut second.third),
-        fourth: rooms::meet(&mut first.fourth, &mut second.fourth),
+        first: rooms::meet_seats(&mut first.first, &mut second.first),
+        second: rooms::meet_seats(&mut first.second, &mut second.second),
+        third: rooms::meet_seats(&mut first.third, &mut second.third),
+        fourth: rooms::meet_seats(&mut first.fourth, &mut second.fourth),
     }
 }

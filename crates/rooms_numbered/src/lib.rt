@@ -6,7 +6,7 @@
 mod meeting;
 mod seat;
 
-pub use meeting::meet;
+pub use meeting::meet_numbered;
 pub use rooms_function::{
     Alloc, ConstProp, EquationLists, FactLists, Function, FunctionOffers, FunctionRoom,
     FunctionSeat, Linearize, Order, Unopened,

@@ -10,7 +10,7 @@ use rooms_hall::Naming;
 /// have two numbers, and no word is loaded; of one, each loads every word of its table once, pass by pass, and tells the other what it has seen, after
 /// three loads of the hall's word.
 #[tactic(auto, using(crate::proofs::Same::same_function))]
-pub fn meet<H: Naming>(
+pub fn meet_numbered<H: Naming>(
     first: &mut NumberedSeat<H>,
     second: &mut NumberedSeat<H>,
 ) -> Option<FunctionMeeting>
@@ -25,5 +25,5 @@ pub fn meet<H: Naming>(
     if !first.claim.compare(&mut second.claim) {
         return None;
     }
-    Some(rooms_function::meet(&mut first.seat, &mut second.seat))
+    Some(rooms_function::meet_functions(&mut first.seat, &mut second.seat))
 }

@@ -9,7 +9,7 @@ mod meeting;
 mod opening;
 mod seat;
 
-pub use meeting::{Meeting, meet};
+pub use meeting::{Meeting, meet_words};
 pub use opening::{Dealer, FourDealers, open_four};
 pub use rooms_meeting::act;
 pub use rooms_words::{CoreError, acceptor, proposer};

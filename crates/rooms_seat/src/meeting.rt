@@ -15,7 +15,7 @@ pub enum Meeting {
 }
 
 /// Two seats of one room tell each other what they have seen, and each loads every word once.
-pub fn meet(first: &mut WordSeat, second: &mut WordSeat) -> Meeting
+pub fn meet_words(first: &mut WordSeat, second: &mut WordSeat) -> Meeting
     requires { first.old.table ≡ second.old.table }
     ensures met { HaveMet first.old second.old first.new second.new }
     ensures answer { result ≡ meeting_of first.new.node.learned second.new.node.learned }

@@ -7,7 +7,7 @@ ghost use Rattle.lang.specs.Form.{IsProgram};
 ghost use Rattle.linear_language.specs.Function.{IsFunction};
 
 use durable_pair_memory::MemoryPair;
-use farm_nodes::{FarmNode, Optimisers, Source, linked, meet};
+use farm_nodes::{FarmNode, Optimisers, Source, linked, meet_nodes};
 use lang::write_program;
 use lang_base::{Program, Shown};
 use linear::run;
@@ -70,7 +70,7 @@ pub(crate) fn crashed_of<O, H: Naming>(
 /// Whether the nodes meet and both link each function.
 fn both_link<H: Naming>(first: &mut Node<H>, second: &mut Node<H>) -> bool {
     let functions = first.seats.len();
-    functions <= 64 && usize::from(meet(first, second)) == functions
+    functions <= 64 && usize::from(meet_nodes(first, second)) == functions
 }
 
 /// Whether each node meets the next, and both link each function.

@@ -1,17 +1,17 @@
 //! The code that nodes link, by functions.
 
 use crate::running::Node;
-use farm_nodes::{NumberedSeat, has_learned_all, learned_offer, meet};
+use farm_nodes::{NumberedSeat, has_learned_function, learned_offer, meet_nodes};
 use rooms_hall::Naming;
 use std::alloc::Global;
 
 /// The offer that is learned in the last room of a function, of which its code is a part; no bytes where it is not linked.
-fn code_of<H: Naming>(alloc: Global, seats: &NumberedSeat<H>) -> Option<Vec<u8>> {
+fn code_of<H: Naming>(alloc: Global, numbered: &NumberedSeat<H>) -> Option<Vec<u8>> {
     let mut code = Vec::new(alloc);
-    if !has_learned_all(seats) {
+    if !has_learned_function(numbered) {
         return Some(code);
     }
-    let Some(offer) = learned_offer(&seats.seat.fourth) else {
+    let Some(offer) = learned_offer(&numbered.seat.fourth) else {
         return None;
     };
     match offer.write(&mut code) {
@@ -61,7 +61,7 @@ fn are_linked(codes: &[Vec<u8>]) -> bool {
 /// Whether the nodes meet and both link each function.
 fn both_link<H: Naming>(first: &mut Node<H>, second: &mut Node<H>) -> bool {
     let functions = first.seats.len();
-    functions <= 64 && usize::from(meet(first, second)) == functions
+    functions <= 64 && usize::from(meet_nodes(first, second)) == functions
 }
 
 /// Whether each node meets the next, and both link each function.

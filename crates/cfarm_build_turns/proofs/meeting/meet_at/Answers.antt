@@ -17,10 +17,10 @@ returns-clause-stay g c =
     let at = c.args.number in
     let front = c.split_at_mut-front.result.0.now in
     let back = c.split_at_mut-front.result.1.now in
-    let first = c.meet-count.new.first in
-    let second = c.meet-count.new.second in
+    let first = c.meet_nodes-count.new.first in
+    let second = c.meet_nodes-count.new.second in
     let parts = c.split_at_mut-front.ensures in
-    let told = c.meet-count.ensures in
+    let told = c.meet_nodes-count.ensures in
     let in_front : at < length front = omega (arith, parts.front_len) in
     let in_back : 0 < length back = omega (arith, parts.back_len, c.requires.next) in
     let going = subst (λ l. AllByRecursion (λ n. n.halted ≡ None) l) parts.value c.requires.going in
@@ -60,10 +60,10 @@ returns-clause-counted g c = λ yes.
     let at = c.args.number in
     let front = c.split_at_mut-front.result.0.now in
     let back = c.split_at_mut-front.result.1.now in
-    let first = c.meet-count.new.first in
-    let second = c.meet-count.new.second in
+    let first = c.meet_nodes-count.new.first in
+    let second = c.meet_nodes-count.new.second in
     let parts = c.split_at_mut-front.ensures in
-    let told = c.meet-count.ensures in
+    let told = c.meet_nodes-count.ensures in
     let in_front : at < length front = omega (arith, parts.front_len) in
     let in_back : 0 < length back = omega (arith, parts.back_len, c.requires.next) in
     let going = subst (λ l. AllByRecursion (λ n. n.halted ≡ None) l) parts.value c.requires.going in
@@ -74,17 +74,17 @@ returns-clause-counted g c = λ yes.
     let cut : length front ≡ suc at = omega (arith, parts.front_len) in
     at_place (λ n. n.seats.items) (set front at first ++ set back 0 second) at first second
     (set_first front (set back 0 second) at first cut) (set_second front back at first second cut in_back)
-    (all_counted _ _ first.seats.items second.seats.items c.meet-count.result met (all.0 ∙ (c.len.ensures ∙ first.seats.ok.0)) (all.1 ∙ (c.len-2.ensures ∙ second.seats.ok.0)))
+    (all_counted _ _ first.seats.items second.seats.items c.meet_nodes-count.result met (all.0 ∙ (c.len.ensures ∙ first.seats.ok.0)) (all.1 ∙ (c.len-2.ensures ∙ second.seats.ok.0)))
 
 pub returns-clause-missed : goal.returns-clause-missed
 returns-clause-missed g c = λ no.
     let at = c.args.number in
     let front = c.split_at_mut-front.result.0.now in
     let back = c.split_at_mut-front.result.1.now in
-    let first = c.meet-count.new.first in
-    let second = c.meet-count.new.second in
+    let first = c.meet_nodes-count.new.first in
+    let second = c.meet_nodes-count.new.second in
     let parts = c.split_at_mut-front.ensures in
-    let told = c.meet-count.ensures in
+    let told = c.meet_nodes-count.ensures in
     let in_front : at < length front = omega (arith, parts.front_len) in
     let in_back : 0 < length back = omega (arith, parts.back_len, c.requires.next) in
     let going = subst (λ l. AllByRecursion (λ n. n.halted ≡ None) l) parts.value c.requires.going in
@@ -98,7 +98,7 @@ returns-clause-missed g c = λ no.
       next = second;
       there = set_first front (set back 0 second) at first cut;
       behind = set_second front back at first second cut in_back;
-      missed = not_counted _ _ first.seats.items second.seats.items c.meet-count.result met
+      missed = not_counted _ _ first.seats.items second.seats.items c.meet_nodes-count.result met
           (λ p q. no (c.is_all.ensures.no (p ∙ sym (c.len.ensures ∙ first.seats.ok.0)) (q ∙ sym (c.len-2.ensures ∙ second.seats.ok.0))));
     }
 

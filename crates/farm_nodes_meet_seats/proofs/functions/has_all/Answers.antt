@@ -6,7 +6,7 @@ use Rattle.farm_nodes_meet_seats.proofs.functions.has_all.Goals as goal
 
 pub returns : goal.returns
 returns g c =
-    has_all_told c.args.seats.now.claim c.args.seats.now.seat
+    has_all_told c.args.numbered.now.claim c.args.numbered.now.seat
     c.has_learned_offer.result c.has_learned_offer-2.result c.has_learned_offer-3.result c.has_learned_offer-4.result c.and-early.result c.and-late.result c.and.result
     c.has_learned_offer.ensures c.has_learned_offer-2.ensures c.has_learned_offer-3.ensures c.has_learned_offer-4.ensures
     c.and-early.ensures c.and-late.ensures c.and.ensures

@@ -9,13 +9,13 @@ pub returns : goal.returns
 returns g c =
     let first = c.args.first.now in
     let second = c.args.second.now in
-    let new = c.meet-told.new in
-    let e = c.meet-told.ensures in
+    let new = c.meet_numbered-told.new in
+    let e = c.meet_numbered-told.ensures in
     has_met (held_with first.claim first.seat) (held_with second.claim second.seat) (held_with new.first.claim new.first.seat) (held_with new.second.claim new.second.seat)
     (met_in first.claim second.claim new.first.claim new.second.claim first.seat second.seat new.first.seat new.second.seat e.first_number e.second_number
-    c.meet-told.result e.strangers e.numbers e.apart e.same e.met)
+    c.meet_numbered-told.result e.strangers e.numbers e.apart e.same e.met)
     c.is_some.result c.and-both.result c.and.result
     (subst (λ (b : Bool). IsTrue b ↔ AreOne (held_with first.claim first.seat) (held_with second.claim second.seat)) (sym c.is_some.ensures)
     (one_told first.claim second.claim new.first.claim new.second.claim first.seat second.seat new.first.seat new.second.seat e.first_number e.second_number
-    c.meet-told.result e.strangers e.same))
+    c.meet_numbered-told.result e.strangers e.same))
     (both_told c.has_all.result c.has_all-2.result c.and-both.result _ _ c.has_all.ensures c.has_all-2.ensures c.and-both.ensures) c.and.ensures

@@ -24,22 +24,22 @@ pub returns-in-Constants-clause-ok : goal.returns-in-Constants-clause-ok
 returns-in-Constants-clause-ok g c = rw c.in-Constants.is (ok_with c.take.result (λ took. (took, refl)) c.take.ensures.ok)
 
 pub returns-in-Constants-clause-err : goal.returns-in-Constants-clause-err
-returns-in-Constants-clause-err g c = err_with c.take.result (λ same. ap (λ (s : SeatValue ConstantsOffer). record (four_of c.args.seats.now) { constants = s }) same) c.take.ensures.err
+returns-in-Constants-clause-err g c = err_with c.take.result (λ same. ap (λ (s : SeatValue ConstantsOffer). record (four_of c.args.numbered.now) { constants = s }) same) c.take.ensures.err
 
 pub returns-in-Expressions-clause-ok : goal.returns-in-Expressions-clause-ok
 returns-in-Expressions-clause-ok g c = rw c.in-Expressions.is (ok_with c.take-in-Expressions.result (λ took. (took, refl)) c.take-in-Expressions.ensures.ok)
 
 pub returns-in-Expressions-clause-err : goal.returns-in-Expressions-clause-err
-returns-in-Expressions-clause-err g c = err_with c.take-in-Expressions.result (λ same. ap (λ (s : SeatValue ExpressionsOffer). record (four_of c.args.seats.now) { expressions = s }) same) c.take-in-Expressions.ensures.err
+returns-in-Expressions-clause-err g c = err_with c.take-in-Expressions.result (λ same. ap (λ (s : SeatValue ExpressionsOffer). record (four_of c.args.numbered.now) { expressions = s }) same) c.take-in-Expressions.ensures.err
 
 pub returns-in-Allocation-clause-ok : goal.returns-in-Allocation-clause-ok
 returns-in-Allocation-clause-ok g c = rw c.in-Allocation.is (ok_with c.take-in-Allocation.result (λ took. (took, refl)) c.take-in-Allocation.ensures.ok)
 
 pub returns-in-Allocation-clause-err : goal.returns-in-Allocation-clause-err
-returns-in-Allocation-clause-err g c = err_with c.take-in-Allocation.result (λ same. ap (λ (s : SeatValue AllocationOffer). record (four_of c.args.seats.now) { allocation = s }) same) c.take-in-Allocation.ensures.err
+returns-in-Allocation-clause-err g c = err_with c.take-in-Allocation.result (λ same. ap (λ (s : SeatValue AllocationOffer). record (four_of c.args.numbered.now) { allocation = s }) same) c.take-in-Allocation.ensures.err
 
 pub returns-in-Order-clause-ok : goal.returns-in-Order-clause-ok
 returns-in-Order-clause-ok g c = rw c.in-Order.is (ok_with c.take-in-Order.result (λ took. (took, refl)) c.take-in-Order.ensures.ok)
 
 pub returns-in-Order-clause-err : goal.returns-in-Order-clause-err
-returns-in-Order-clause-err g c = err_with c.take-in-Order.result (λ same. ap (λ (s : SeatValue OrderOffer). record (four_of c.args.seats.now) { order = s }) same) c.take-in-Order.ensures.err
+returns-in-Order-clause-err g c = err_with c.take-in-Order.result (λ same. ap (λ (s : SeatValue OrderOffer). record (four_of c.args.numbered.now) { order = s }) same) c.take-in-Order.ensures.err

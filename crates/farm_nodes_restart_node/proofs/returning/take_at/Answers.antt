@@ -13,12 +13,12 @@ take_in-requires g c =
 pub returns-clause-ok : goal.returns-clause-ok
 returns-clause-ok g c =
     took_lent IsConstants IsExpressions IsAllocation IsOrder four_of c.args.seats.now.items c.args.room c.args.pending.now c.requires
-    c.from.result c.in-Some.four.now c.from.ensures c.in-Some.ensures.value c.of_room.result c.take_in.new.seats c.take_in.result c.of_room.ensures
+    c.from.result c.in-Some.four.now c.from.ensures c.in-Some.ensures.value c.of_room.result c.take_in.new.numbered c.take_in.result c.of_room.ensures
     c.take_in.ensures.ok
 
 pub returns-clause-err : goal.returns-clause-err
 returns-clause-err g c =
-    err_same_seen four_of c.from.result c.args.seats.now.items c.in-Some.four.now c.take_in.new.seats c.take_in.result
+    err_same_seen four_of c.from.result c.args.seats.now.items c.in-Some.four.now c.take_in.new.numbered c.take_in.result
     (pending_there IsConstants IsExpressions IsAllocation IsOrder four_of c.args.seats.now.items c.args.room c.args.pending.now c.requires
     c.from.result c.in-Some.four.now c.from.ensures c.in-Some.ensures.value)
     c.take_in.ensures.err

@@ -20,7 +20,7 @@ is_kept_in-fourth-requires-sync-P-In-Fun g c κs = search (function_sync, sendab
 
 pub returns : goal.returns
 returns g c =
-    four_kept c.args.parts.now c.args.place (four_of c.args.seats.now)
+    four_kept c.args.parts.now c.args.place (four_of c.args.numbered.now)
     (IsTrue c.is_kept_in-first.result) (IsTrue c.is_kept_in-second.result) (IsTrue c.is_kept_in-third.result) (IsTrue c.is_kept_in-fourth.result)
     (IsTrue c.both-front.result) (IsTrue c.both-back.result) (IsTrue c.both.result)
     c.is_kept_in-first.ensures c.is_kept_in-second.ensures c.is_kept_in-third.ensures c.is_kept_in-fourth.ensures

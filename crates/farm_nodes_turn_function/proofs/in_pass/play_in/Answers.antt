@@ -21,7 +21,7 @@ returns-in-Constants-clause-made g c = rw c.in-Constants.is c.play_first.ensures
 
 pub returns-in-Constants-clause-after : goal.returns-in-Constants-clause-after
 returns-in-Constants-clause-after g c =
-    let old = four_of c.args.seats.now in
+    let old = four_of c.args.numbered.now in
     rw c.in-Constants.is
     (stands_after c.play_first.result Constants c.args.draws.now c.play_first.new.draws old (record old { constants = c.play_first.new.seat })
     (on_ok c.play_first.result (c.play_first.new.seat.words.node.kept.offered ≡ true)
@@ -54,7 +54,7 @@ returns-in-Expressions-clause-made g c = rw c.in-Expressions.is c.play_behind.en
 
 pub returns-in-Expressions-clause-after : goal.returns-in-Expressions-clause-after
 returns-in-Expressions-clause-after g c =
-    let old = four_of c.args.seats.now in
+    let old = four_of c.args.numbered.now in
     rw c.in-Expressions.is
     (stands_after c.play_behind.result Expressions c.args.draws.now c.play_behind.new.draws old (record old { expressions = c.play_behind.new.seat })
     c.play_behind.ensures.offered c.play_behind.ensures.quiet c.play_behind.ensures.proposed c.play_behind.ensures.led c.play_behind.ensures.drawn)
@@ -85,7 +85,7 @@ returns-in-Allocation-clause-made g c = rw c.in-Allocation.is c.play_behind-in-A
 
 pub returns-in-Allocation-clause-after : goal.returns-in-Allocation-clause-after
 returns-in-Allocation-clause-after g c =
-    let old = four_of c.args.seats.now in
+    let old = four_of c.args.numbered.now in
     rw c.in-Allocation.is
     (stands_after c.play_behind-in-Allocation.result Allocation c.args.draws.now c.play_behind-in-Allocation.new.draws old (record old { allocation = c.play_behind-in-Allocation.new.seat })
     c.play_behind-in-Allocation.ensures.offered c.play_behind-in-Allocation.ensures.quiet c.play_behind-in-Allocation.ensures.proposed c.play_behind-in-Allocation.ensures.led c.play_behind-in-Allocation.ensures.drawn)
@@ -116,7 +116,7 @@ returns-in-Order-clause-made g c = rw c.in-Order.is c.play_behind-in-Order.ensur
 
 pub returns-in-Order-clause-after : goal.returns-in-Order-clause-after
 returns-in-Order-clause-after g c =
-    let old = four_of c.args.seats.now in
+    let old = four_of c.args.numbered.now in
     rw c.in-Order.is
     (stands_after c.play_behind-in-Order.result Order c.args.draws.now c.play_behind-in-Order.new.draws old (record old { order = c.play_behind-in-Order.new.seat })
     c.play_behind-in-Order.ensures.offered c.play_behind-in-Order.ensures.quiet c.play_behind-in-Order.ensures.proposed c.play_behind-in-Order.ensures.led c.play_behind-in-Order.ensures.drawn)

@@ -17,30 +17,30 @@ use Rattle.farm_nodes_turn_function.proofs.in_room.turn_in.Goals as goal
 
 pub returns-clause-others : goal.returns-clause-others
 returns-clause-others g c f other =
-    off_set c.args.seats.now.items c.from.result f c.play_in.new.seats (λ (e : f ≡ c.from.result). other (e ∙ c.from.ensures))
+    off_set c.args.seats.now.items c.from.result f c.play_in.new.numbered (λ (e : f ≡ c.from.result). other (e ∙ c.from.ensures))
 
 pub returns-clause-count : goal.returns-clause-count
-returns-clause-count g c = length-set c.args.seats.now.items c.from.result c.play_in.new.seats
+returns-clause-count g c = length-set c.args.seats.now.items c.from.result c.play_in.new.numbered
 
 pub returns-clause-leaves : goal.returns-clause-leaves
 returns-clause-leaves g c =
     place_set four_of (LeavesSeats c.args.function.now (pass_of c.args.room)) c.args.seats.now.items c.from.result (function_of c.args.room)
-    c.in-Some.four.now c.play_in.new.seats c.from.ensures c.in-Some.ensures.value
-    (subst (λ (p : Which). LeavesSeats c.args.function.now p (four_of c.in-Some.four.now) (four_of c.play_in.new.seats)) c.of_room.ensures
+    c.in-Some.four.now c.play_in.new.numbered c.from.ensures c.in-Some.ensures.value
+    (subst (λ (p : Which). LeavesSeats c.args.function.now p (four_of c.in-Some.four.now) (four_of c.play_in.new.numbered)) c.of_room.ensures
     (record { stays = c.play_in.ensures.stays; others = c.play_in.ensures.others; made = c.play_in.ensures.made }))
 
 pub returns-clause-after : goal.returns-clause-after
 returns-clause-after g c =
     let old = four_of c.in-Some.four.now in
-    let new = four_of c.play_in.new.seats in
+    let new = four_of c.play_in.new.numbered in
     let pass = c.of_room.result in
     let draws = c.args.draws.now in
     let drawn = c.play_in.new.draws in
     on_ok c.play_in.result (StandsAfter pass draws drawn old new)
-    (AtPlace four_of (StandsAfter (pass_of c.args.room) draws drawn) (function_of c.args.room) c.args.seats.now.items (set c.args.seats.now.items c.from.result c.play_in.new.seats))
+    (AtPlace four_of (StandsAfter (pass_of c.args.room) draws drawn) (function_of c.args.room) c.args.seats.now.items (set c.args.seats.now.items c.from.result c.play_in.new.numbered))
     (λ after.
     place_set four_of (StandsAfter (pass_of c.args.room) draws drawn) c.args.seats.now.items c.from.result (function_of c.args.room)
-    c.in-Some.four.now c.play_in.new.seats c.from.ensures c.in-Some.ensures.value
+    c.in-Some.four.now c.play_in.new.numbered c.from.ensures c.in-Some.ensures.value
     (subst (λ (p : Which). StandsAfter p draws drawn old new) c.of_room.ensures after))
     c.play_in.ensures.after
 
@@ -49,17 +49,17 @@ returns-clause-draws g c =
     let draws = c.args.draws.now in
     let drawn = c.play_in.new.draws in
     place_set four_of (DrawsIn (pass_of c.args.room) draws drawn) c.args.seats.now.items c.from.result (function_of c.args.room)
-    c.in-Some.four.now c.play_in.new.seats c.from.ensures c.in-Some.ensures.value
-    (subst (λ (p : Which). DrawsIn p draws drawn (four_of c.in-Some.four.now) (four_of c.play_in.new.seats)) c.of_room.ensures c.play_in.ensures.draws)
+    c.in-Some.four.now c.play_in.new.numbered c.from.ensures c.in-Some.ensures.value
+    (subst (λ (p : Which). DrawsIn p draws drawn (four_of c.in-Some.four.now) (four_of c.play_in.new.numbered)) c.of_room.ensures c.play_in.ensures.draws)
 
 pub returns-clause-journal : goal.returns-clause-journal
 returns-clause-journal g c honest going =
     let disk = g.D.Disk in
     let old = four_of c.in-Some.four.now in
-    let new = four_of c.play_in.new.seats in
+    let new = four_of c.play_in.new.numbered in
     place_set four_of (PlayedIn pass_texts disk.is_honest disk.seen disk.may_leave disk.moment disk.left_since c.args.log.now c.play_in.new.log c.args.room c.play_in.result)
     c.args.seats.now.items c.from.result (function_of c.args.room)
-    c.in-Some.four.now c.play_in.new.seats c.from.ensures c.in-Some.ensures.value
+    c.in-Some.four.now c.play_in.new.numbered c.from.ensures c.in-Some.ensures.value
     (subst (λ (p : Which). Played (IsOwnTextIn pass_texts p new) disk.is_honest disk.seen disk.may_leave disk.moment disk.left_since c.args.log.now c.play_in.new.log c.args.room (words_of old p) (words_of new p) c.play_in.result) c.of_room.ensures
     (c.play_in.ensures.journal honest going))
 
@@ -67,26 +67,26 @@ pub returns-clause-cause : goal.returns-clause-cause
 returns-clause-cause g c going =
     let disk = g.D.Disk in
     let old = four_of c.in-Some.four.now in
-    let new = four_of c.play_in.new.seats in
+    let new = four_of c.play_in.new.numbered in
     let cause = λ (p : Which) (halt : Halt).
     HasHaltCause disk.is_honest disk.faults (IsTooLargeFor c.args.function.now p old)
     c.args.log.now c.play_in.new.log (left_over c.args.room (words_of new p) halt.pending) halt.fault in
     if_err c.play_in.result (cause c.of_room.result)
     (λ (halt : Halt). AtPlace four_of
     (HaltsIn disk.is_honest disk.faults (IsTooLargeFor c.args.function.now (pass_of c.args.room)) c.args.log.now c.play_in.new.log c.args.room halt)
-    (function_of c.args.room) c.args.seats.now.items (set c.args.seats.now.items c.from.result c.play_in.new.seats))
+    (function_of c.args.room) c.args.seats.now.items (set c.args.seats.now.items c.from.result c.play_in.new.numbered))
     (λ halt told.
     place_set four_of
     (HaltsIn disk.is_honest disk.faults (IsTooLargeFor c.args.function.now (pass_of c.args.room)) c.args.log.now c.play_in.new.log c.args.room halt)
     c.args.seats.now.items c.from.result (function_of c.args.room)
-    c.in-Some.four.now c.play_in.new.seats c.from.ensures c.in-Some.ensures.value
+    c.in-Some.four.now c.play_in.new.numbered c.from.ensures c.in-Some.ensures.value
     (subst (λ (p : Which). cause p halt) c.of_room.ensures told))
     (c.play_in.ensures.cause going)
 
 pub returns-clause-left : goal.returns-clause-left
 returns-clause-left g c =
     let items = c.args.seats.now.items in
-    let new = c.play_in.new.seats in
+    let new = c.play_in.new.numbered in
     if_err c.play_in.result
     (λ (halt : Halt). HasPending new c.args.room c.of_room.result halt.pending)
     (λ (halt : Halt). HavePending (set items c.from.result new) c.args.room halt.pending)

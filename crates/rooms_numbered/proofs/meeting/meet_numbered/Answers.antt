@@ -2,7 +2,7 @@
 use Rattle.std.proofs.Common.{◌≡◌, ◌≢◌, Bool, subst}
 use Rattle.std.specs.Prelude.{MatchBool}
 use Rattle.rooms_numbered.proofs.Same.{strangers, told_apart, told_one}
-use Rattle.rooms_numbered.proofs.meeting.meet.Goals as goal
+use Rattle.rooms_numbered.proofs.meeting.meet_numbered.Goals as goal
 
 pub returns-then-not-compare-clause-strangers : goal.returns-then-not-compare-clause-strangers
 returns-then-not-compare-clause-strangers g c e =
@@ -17,4 +17,4 @@ returns-then-not-compare-clause-numbers g c =
 
 pub returns-clause-numbers : goal.returns-clause-numbers
 returns-clause-numbers g c =
-    told_one c.args.first.now.claim c.args.second.now.claim c.compare.result c.meet.result c.if-not-compare.false c.compare.ensures.told
+    told_one c.args.first.now.claim c.args.second.now.claim c.compare.result c.meet_functions.result c.if-not-compare.false c.compare.ensures.told

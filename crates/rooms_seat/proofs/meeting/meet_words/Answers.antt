@@ -5,7 +5,7 @@ use Rattle.rooms_meeting.proofs.Looked.{same_table}
 use Rattle.rooms_meeting.proofs.Meetings.{have_met, met_agree}
 use Rattle.rooms_seat.specs.Meeting.{HaveMet}
 use Rattle.rooms_meeting.specs.SeatState.{SeatState}
-use Rattle.rooms_seat.proofs.meeting.meet.Goals as goal
+use Rattle.rooms_seat.proofs.meeting.meet_words.Goals as goal
 
 pub hear-requires-2 : goal.hear-requires-2
 hear-requires-2 c =

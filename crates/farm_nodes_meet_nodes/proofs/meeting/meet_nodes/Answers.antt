@@ -8,7 +8,7 @@ use Rattle.farm_nodes_turn_node.specs.Waiting.{IsWaiting}
 use Rattle.farm_nodes_turn_node.proofs.Whole.{none_of, not_none}
 use Rattle.farm_nodes_meet_seats.specs.Texts.{pass_texts}
 use Rattle.farm_nodes_meet_nodes.proofs.Kept.{first_kept, second_kept, met_as, sound_kept}
-use Rattle.farm_nodes_meet_nodes.proofs.meeting.meet.Goals as goal
+use Rattle.farm_nodes_meet_nodes.proofs.meeting.meet_nodes.Goals as goal
 
 pub returns-then-is_some-clause-met : goal.returns-then-is_some-clause-met
 returns-then-is_some-clause-met g c none none' = absurd (not_none c.args.first.now.halted (sym c.is_some.ensures ∙ c.if-is_some.true) none)
