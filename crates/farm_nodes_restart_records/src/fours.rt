@@ -55,7 +55,11 @@ pub(crate) fn is_text_in<H: Naming>(
 }
 
 /// Whether the four parts from this place on are what the seats keep.
-pub(crate) fn are_kept_at<H: Naming>(numbered: &NumberedSeat<H>, parts: &[Kept], place: usize) -> bool
+pub(crate) fn are_kept_at<H: Naming>(
+    numbered: &NumberedSeat<H>,
+    parts: &[Kept],
+    place: usize,
+) -> bool
     requires { place + 3 < length parts.now }
     ensures { IsTrue result ↔ AreKeptAt parts.now place (four_of numbered.now) }
 {
