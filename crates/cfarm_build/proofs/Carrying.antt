@@ -8,8 +8,6 @@ use Rattle.paxos_core_world.specs.Quorum.{Sizes}
 use Rattle.cfarm_build_linking.proofs.Carrying.{carried}
 use Rattle.cfarm_build_linking.specs.Carried.{bundle_of}
 use Rattle.cfarm_build.specs.Built.{Built, IsBuiltBack, nodes_seen}
-use Rattle.cfarm_build.specs.declared.given_back.GivenBack.{GivenBack}
-use Rattle.cfarm_build.specs.declared.given_back.GivenBack.TheVariants.{Nothing, Pairs, Nodes}
 use Rattle.sha2.specs.Sha256.{sha256}
 use Rattle.c_checker_rules.specs.Checked.{program_tree}
 use Rattle.farm_nodes_source.specs.declared.source.Source.{Source}
@@ -27,10 +25,8 @@ carried_of text source is program (Some b) carries = record {
       (subst (λ d. Carries (program_tree source.program) d program b) is.digest carries);
 }
 
--- so does what nodes build that are given back
-pub carried_back : {D : Type 0} (disk : disks.Ghosts D) (pair : pairs.Ghosts D) (q : Sizes) (seed turns : ℕ) (given : List D) {H : Type 0} {h : naming.Ghosts H}
-    (source : Source) (back : GivenBack D H h) (built : Built) → IsBuiltBack disk pair q seed turns source given back built
+-- so does what nodes build whose disks are given back
+pub carried_back : {D : Type 0} (disk : disks.Ghosts D) (pair : pairs.Ghosts D) {H : Type 0} (h : naming.Ghosts H) (q : Sizes) (seed turns : ℕ) (source : Source)
+    (given back : List D) (built : Built) → IsBuiltBack disk pair h q seed turns source given back built
     → IfSome (bundle_of built) (λ b. Carries (program_tree source.program) source.digest built.program.items b)
-carried_back disk pair q seed turns given source Nothing built is = absurd is
-carried_back disk pair q seed turns given source (Pairs pairs) built is = absurd is
-carried_back disk pair q seed turns given source (Nodes nodes) built is = carried source (nodes_seen nodes.items) built is.makes
+carried_back disk pair h q seed turns source given back built is = carried source (nodes_seen is.nodes) built is.are.makes

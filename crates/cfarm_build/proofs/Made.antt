@@ -1,6 +1,6 @@
 -- What nodes make that opened, or why they make nothing, as it is told of the whole build.
 use Rattle.std.proofs.Common.{◌≡◌, ℕ, List, length, map, None, Result, Ok, Err, IfOk, IfErr, inl, inr, refl, sym, ap, subst, ◌∙◌}
-use Rattle.std.specs.Global.{Vec}
+use Rattle.std.proofs.lemmas.List.{length-map}
 use Rattle.std.specs.Arc.{arc_value}
 use Rattle.std.specs.List.{All, AllByRecursion, AllZip}
 use Rattle.std.specs.Prelude.{◌⊎◌}
@@ -23,17 +23,17 @@ use Rattle.cfarm_build_turns.specs.Fault.{Fault}
 use Rattle.cfarm_build_turns.specs.Node.{node}
 use Rattle.cfarm_build_turns.specs.Nodes.{AreBack, AreMissed, HasStopped, HaveOpened, NodeStays, NodesMetTwice, failed_of}
 use Rattle.cfarm_build_turns.specs.NotRun.{IsNotRun}
-use Rattle.cfarm_build_turns.specs.Resting.{Resting, rested}
+use Rattle.cfarm_build_turns.specs.Resting.{Resting, disks_in, rested}
 use Rattle.cfarm_build_turns.specs.Unmet.{IsUnmet}
 use Rattle.cfarm_build_turns.proofs.Counting.{missed_seen}
 use Rattle.cfarm_build_turns.proofs.NodesRest.{asked_at_rest, back_at_rest, failed_at_rest, stopped_at_rest, twice_at_rest}
 use Rattle.cfarm_build_turns.proofs.Voted.{all_voted}
 use Rattle.cfarm_build_turns.proofs.Turning.{come_back, has_stopped, meets_none}
 use Rattle.cfarm_build_turns.proofs.Zips.{all_of, all_same, map_twice}
-use Rattle.cfarm_build.specs.Built.{Built, IsBuilt, nodes_seen}
+use Rattle.cfarm_build.specs.Built.{Built, IsBuilt, IsBuiltBack, nodes_seen}
 use Rattle.cfarm_build.specs.Gone.{HaveGone, IsUnmade}
 use Rattle.cfarm_build.specs.Refused.{AreWanting, ComeBack, HasFailed, HaveMetIn, IsUnbuilt}
-use Rattle.cfarm_build.specs.declared.given_back.GivenBack.TheVariants as back
+use Rattle.cfarm_build.specs.Back.{AreDisksOf}
 
 module _ {D O H : Type 0} {h : naming.Ghosts H} (disk : disks.Ghosts D) (turns : ℕ) (source : Source) (begun ran : List (FarmNode D O H h)) where
   not_run : (e : BuildError) → IsNotRun e → IsUnmade source ran ran e
@@ -143,11 +143,11 @@ module _ {D O H : Type 0} {h : naming.Ghosts H} (disk : disks.Ghosts D) (pair : 
   }
   built_at_rest (Err e) gone = tt
 
-  wanting : AreMissed (λ n. n.seats.items) nodes ⊎ IsRefusedBy source (nodes_seen nodes) Undecided → AreWanting disk pair q seed turns source given (at_rest nodes)
+  wanting : AreMissed (λ n. n.seats.items) nodes ⊎ IsRefusedBy source (nodes_seen nodes) Undecided → AreWanting disk pair h q seed turns source given (at_rest nodes)
   wanting (inl missed) = inl (missed_seen (λ n. n.seats.items) (λ n. rested n) (λ n. n.seats.items) (λ n. refl) nodes missed)
   wanting (inr un) = inr (subst (λ l. IsRefusedBy source l Undecided) (sym (seen_same nodes)) un)
 
-  failed_so : (number : ℕ) (fault : Fault) (gone : HaveGone disk turns source begun nodes (Err (Failed number fault))) → HasFailed disk pair q seed turns source given number fault (at_rest nodes)
+  failed_so : (number : ℕ) (fault : Fault) (gone : HaveGone disk turns source begun nodes (Err (Failed number fault))) → HasFailed disk pair h q seed turns source given number fault (at_rest nodes)
   failed_so number fault gone =
       let same = gone.makes_not.1 in
       record {
@@ -159,32 +159,39 @@ module _ {D O H : Type 0} {h : naming.Ghosts H} (disk : disks.Ghosts D) (pair : 
             (has_stopped disk pair q source given seed turns begun gone.ran opened gone.turned number fault gone.makes_not.0));
       }
 
-  unbuilt_at_rest : (v : Vec (Resting D H h)) → v.items ≡ at_rest nodes → (e : BuildError) → HaveGone disk turns source begun nodes (Err e)
-      → IsUnbuilt disk pair q seed turns source given (back.Nodes v) e
-  unbuilt_at_rest v is NoMemory gone = inr (subst (ComeBack disk pair q seed turns source given) (sym is) (record { begun = at_rest begun; ran = at_rest gone.ran; back = back_so (Err NoMemory) gone }))
-  unbuilt_at_rest v is NoThread gone = subst (ComeBack disk pair q seed turns source given) (sym is) (record { begun = at_rest begun; ran = at_rest gone.ran; back = back_so (Err NoThread) gone })
-  unbuilt_at_rest v is (TextFault f) gone = gone.makes_not
-  unbuilt_at_rest v is (Disks f) gone = absurd gone.makes_not
-  unbuilt_at_rest v is (Failed n f) gone = subst (HasFailed disk pair q seed turns source given n f) (sym is) (failed_so n f gone)
-  unbuilt_at_rest v is Undecided gone = subst (HaveMetIn disk pair q seed turns source given (AreWanting disk pair q seed turns source given)) (sym is)
-      (record { begun = at_rest begun; ran = at_rest gone.ran; back = back_so (Err Undecided) gone; going = failed_at_rest gone.ran ∙ gone.makes_not.0; is = wanting gone.makes_not.1 })
-  unbuilt_at_rest v is (Unlinked f function) gone =
-      subst (HaveMetIn disk pair q seed turns source given (λ l. IsRefusedBy source (nodes_seen l) (Unlinked f function))) (sym is)
-      (record {
-        begun = at_rest begun;
-        ran = at_rest gone.ran;
-        back = back_so (Err (Unlinked f function)) gone;
-        going = failed_at_rest gone.ran ∙ gone.makes_not.0;
-        is = subst (λ l. IsRefusedBy source l (Unlinked f function)) (sym (seen_same nodes)) gone.makes_not.1;
-      })
-  unbuilt_at_rest v is Names gone = gone.makes_not
+  -- what is built, and why nothing is, with the disks of the nodes
+  module _ (back : List D) (is : back ≡ disks_in nodes) where
+    of_nodes : (Are : List (Resting D H h) → Type 0) → Are (at_rest nodes) → AreDisksOf h back Are
+    of_nodes Are are = record { nodes = at_rest nodes; theirs = is ∙ sym (map_twice (λ n. rested n) (λ n. n.log.disk) nodes); are = are }
 
-  -- what is built, and why nothing is, with the nodes at rest
-  module _ (v : Vec (Resting D H h)) (is : v.items ≡ at_rest nodes) where
-    pub built_so : (made : Result Built BuildError) → HaveGone disk turns source begun nodes made → IfOk made (IsBuilt disk pair q seed turns source given v.items)
-    built_so made gone = subst (λ l. IfOk made (IsBuilt disk pair q seed turns source given l)) (sym is) (built_at_rest made gone)
+    unbuilt_with : (e : BuildError) → HaveGone disk turns source begun nodes (Err e) → IsUnbuilt disk pair h q seed turns source given back e
+    unbuilt_with NoMemory gone = inr (of_nodes (ComeBack disk pair h q seed turns source given) (record { begun = at_rest begun; ran = at_rest gone.ran; back = back_so (Err NoMemory) gone }))
+    unbuilt_with NoThread gone = of_nodes (ComeBack disk pair h q seed turns source given) (record { begun = at_rest begun; ran = at_rest gone.ran; back = back_so (Err NoThread) gone })
+    unbuilt_with (TextFault f) gone = gone.makes_not
+    unbuilt_with (Disks f) gone = absurd gone.makes_not
+    unbuilt_with (Failed n f) gone = of_nodes (HasFailed disk pair h q seed turns source given n f) (failed_so n f gone)
+    unbuilt_with Undecided gone = of_nodes (HaveMetIn disk pair h q seed turns source given (AreWanting disk pair h q seed turns source given))
+        (record { begun = at_rest begun; ran = at_rest gone.ran; back = back_so (Err Undecided) gone; going = failed_at_rest gone.ran ∙ gone.makes_not.0; is = wanting gone.makes_not.1 })
+    unbuilt_with (Unlinked f function) gone =
+        of_nodes (HaveMetIn disk pair h q seed turns source given (λ l. IsRefusedBy source (nodes_seen l) (Unlinked f function)))
+        (record {
+          begun = at_rest begun;
+          ran = at_rest gone.ran;
+          back = back_so (Err (Unlinked f function)) gone;
+          going = failed_at_rest gone.ran ∙ gone.makes_not.0;
+          is = subst (λ l. IsRefusedBy source l (Unlinked f function)) (sym (seen_same nodes)) gone.makes_not.1;
+        })
+    unbuilt_with Names gone = gone.makes_not
 
-    pub unbuilt_so : (made : Result Built BuildError) → HaveGone disk turns source begun nodes made
-        → IfErr made (IsUnbuilt disk pair q seed turns source given (back.Nodes v))
+    pub built_so : (made : Result Built BuildError) → HaveGone disk turns source begun nodes made → IfOk made (IsBuiltBack disk pair h q seed turns source given back)
+    built_so (Ok built) gone = of_nodes (λ l. IsBuilt disk pair q seed turns source given l built) (built_at_rest (Ok built) gone)
+    built_so (Err e) gone = tt
+
+    pub unbuilt_so : (made : Result Built BuildError) → HaveGone disk turns source begun nodes made → IfErr made (IsUnbuilt disk pair h q seed turns source given back)
     unbuilt_so (Ok built) gone = tt
-    unbuilt_so (Err e) gone = unbuilt_at_rest v is e gone
+    unbuilt_so (Err e) gone = unbuilt_with e gone
+
+    -- there are as many as were given
+    pub as_many : (made : Result Built BuildError) → HaveGone disk turns source begun nodes made → length back ≡ length given
+    as_many made gone =
+        ap length is ∙ (length-map nodes (λ n. n.log.disk) ∙ (sym (length-map nodes (λ n. rested n)) ∙ (back_so made gone).hold.count))

@@ -1,5 +1,6 @@
 -- What a build makes, and the nodes that it gives back.
 use Rattle.std.specs.Prelude.{◌≡◌, ℕ, List, None, map}
+use Rattle.std.specs.Global.{Vec}
 use Rattle.std.specs.List.{AllByRecursion}
 use Rattle.durable_model.specs.declared.disk.Disk as disks
 use Rattle.durable_pair.specs.declared.pair.Pair as pairs
@@ -14,8 +15,7 @@ use Rattle.cfarm_build_turns.specs.Nodes.{AreBack, NodesMetTwice, failed_of}
 use Rattle.cfarm_build_turns.specs.FarmNode.{FarmNode}
 use Rattle.cfarm_build_turns.specs.Resting.{Resting}
 use Rattle.cfarm_build_turns.specs.Voted.{AreVotedFor}
-use Rattle.cfarm_build.specs.Back.{AreNodes}
-use Rattle.cfarm_build.specs.declared.given_back.GivenBack.{GivenBack}
+use Rattle.cfarm_build.specs.Back.{AreDisksOf}
 
 -- what is said of nodes: their journals, their seats, and what stopped them
 abbrev pub nodes_seen : {D O H : Type 0} {h : naming.Ghosts H} → List (FarmNode D O H h) → List (Node D H h)
@@ -35,7 +35,12 @@ pub record IsBuilt {D : Type 0} (disk : disks.Ghosts D) (pair : pairs.Ghosts D) 
   pub voted : AllByRecursion (λ n. AreVotedFor q n.seats.items) nodes
   pub makes : IsBuiltBy source (nodes_seen nodes) built
 
--- nodes are given back, and this is built by them
-abbrev pub IsBuiltBack : {D : Type 0} → disks.Ghosts D → pairs.Ghosts D → Sizes → (seed turns : ℕ) → Source → List D
-    → {H : Type 0} {h : naming.Ghosts H} → GivenBack D H h → Built → Type 0
-IsBuiltBack disk pair q seed turns source given left built = AreNodes left (λ nodes. IsBuilt disk pair q seed turns source given nodes built)
+-- the disks of nodes are given back, and this is built by these
+abbrev pub IsBuiltBack : {D : Type 0} → disks.Ghosts D → pairs.Ghosts D → {H : Type 0} → naming.Ghosts H → Sizes → (seed turns : ℕ) → Source
+    → (given back : List D) → Built → Type 0
+IsBuiltBack disk pair h q seed turns source given back built = AreDisksOf h back (λ nodes. IsBuilt disk pair q seed turns source given nodes built)
+
+-- the same of what is handed over
+abbrev pub GivesBuilt : {D : Type 0} → disks.Ghosts D → pairs.Ghosts D → {H : Type 0} → naming.Ghosts H → Sizes → (seed turns : ℕ) → Source
+    → (given back : Vec D) → Built → Type 0
+GivesBuilt disk pair h q seed turns source given back built = IsBuiltBack disk pair h q seed turns source given.items back.items built

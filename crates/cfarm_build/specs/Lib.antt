@@ -6,7 +6,11 @@ pub mod Compiled
 pub mod Done
 pub mod Farmed
 pub mod Gone
-pub mod Put
 pub use Rattle.cfarm_build_folder.specs.Answers
 pub use Rattle.cfarm_build_folder.specs.Changed
 pub use Rattle.cfarm_build_folder.specs.declared.error.BuildingError
+pub use Rattle.cfarm_build_turns.specs.Alike
+pub use Rattle.cfarm_build_turns.specs.Neighbours
+pub use Rattle.cfarm_build_turns.specs.Node
+pub use Rattle.cfarm_build_turns.specs.Nodes
+pub use Rattle.cfarm_build_turns.specs.Resting

@@ -1,5 +1,6 @@
 -- Why nothing is built, and what is given back then.
 use Rattle.std.specs.Prelude.{◌≡◌, ◌⊎◌, ℕ, List, None, Some}
+use Rattle.std.specs.Global.{Vec}
 use Rattle.durable_model.specs.declared.disk.Disk as disks
 use Rattle.durable_pair.specs.declared.pair.Pair as pairs
 use Rattle.rooms_hall.specs.declared.hall.Naming as naming
@@ -12,12 +13,11 @@ use Rattle.cfarm_build_folder.specs.BuildError.TheVariants.{NoMemory, NoThread, 
 use Rattle.cfarm_build_linking.specs.Refused.{IsRefusedBy}
 use Rattle.cfarm_build_turns.specs.Nodes.{AreBack, AreMissed, HasStopped, failed_of}
 use Rattle.cfarm_build_turns.specs.Resting.{Resting}
-use Rattle.cfarm_build.specs.Back.{AreNodes, ArePairs}
+use Rattle.cfarm_build.specs.Back.{AreDisksOf}
 use Rattle.cfarm_build.specs.Built.{nodes_seen}
-use Rattle.cfarm_build.specs.declared.given_back.GivenBack.{GivenBack}
 
-module _ {D : Type 0} (disk : disks.Ghosts D) (pair : pairs.Ghosts D) (q : Sizes) (seed turns : ℕ) (source : Source) (given : List D)
-    {H : Type 0} {h : naming.Ghosts H} where
+module _ {D : Type 0} (disk : disks.Ghosts D) (pair : pairs.Ghosts D) {H : Type 0} (h : naming.Ghosts H) (q : Sizes) (seed turns : ℕ) (source : Source)
+    (given : List D) where
   -- the farm's nodes, whose disks hold their journals
   pub record ComeBack (nodes : List (Resting D H h)) : Type 0 where
     pub begun : List (Resting D H h)
@@ -44,13 +44,18 @@ module _ {D : Type 0} (disk : disks.Ghosts D) (pair : pairs.Ghosts D) (q : Sizes
   AreWanting nodes = AreMissed (λ n. n.seats.items) nodes ⊎ IsRefusedBy source (nodes_seen nodes) Undecided
 
   -- In this order: the disks, the lowest node that failed, what is not linked. The names are the program's. That memory or a thread was refused says
-  -- nothing but what is given back: the pairs as they were given, or the nodes.
-  abbrev pub IsUnbuilt : GivenBack D H h → BuildError → Type 0
-  IsUnbuilt left NoMemory = ArePairs left (λ back. back ≡ given) ⊎ AreNodes left ComeBack
-  IsUnbuilt left NoThread = AreNodes left ComeBack
-  IsUnbuilt left (TextFault fault) = ⊥
-  IsUnbuilt left (Disks fault) = ArePairs left (λ back. AreRefusedOver disk pair q source given back fault)
-  IsUnbuilt left (Failed number fault) = AreNodes left (HasFailed number fault)
-  IsUnbuilt left Undecided = AreNodes left (HaveMetIn AreWanting)
-  IsUnbuilt left (Unlinked fault function) = AreNodes left (HaveMetIn (λ nodes. IsRefusedBy source (nodes_seen nodes) (Unlinked fault function)))
-  IsUnbuilt left Names = ⊥
+  -- nothing but what is given back: the pairs as they were given, or the disks of the nodes.
+  abbrev pub IsUnbuilt : (back : List D) → BuildError → Type 0
+  IsUnbuilt back NoMemory = (back ≡ given) ⊎ AreDisksOf h back ComeBack
+  IsUnbuilt back NoThread = AreDisksOf h back ComeBack
+  IsUnbuilt back (TextFault fault) = ⊥
+  IsUnbuilt back (Disks fault) = AreRefusedOver disk pair q source given back fault
+  IsUnbuilt back (Failed number fault) = AreDisksOf h back (HasFailed number fault)
+  IsUnbuilt back Undecided = AreDisksOf h back (HaveMetIn AreWanting)
+  IsUnbuilt back (Unlinked fault function) = AreDisksOf h back (HaveMetIn (λ nodes. IsRefusedBy source (nodes_seen nodes) (Unlinked fault function)))
+  IsUnbuilt back Names = ⊥
+
+-- the same of what is handed over
+abbrev pub GivesUnbuilt : {D : Type 0} → disks.Ghosts D → pairs.Ghosts D → {H : Type 0} → naming.Ghosts H → Sizes → (seed turns : ℕ) → Source
+    → (given back : Vec D) → BuildError → Type 0
+GivesUnbuilt disk pair h q seed turns source given back fault = IsUnbuilt disk pair h q seed turns source given.items back.items fault

@@ -5,17 +5,16 @@ ghost use Rattle.c_checker_rules.specs.Checked.{program_tree};
 ghost use Rattle.cminor_lowering.specs.Programs.{low};
 ghost use Rattle.cminor_program_ranges.specs.Names.{HaveNames};
 ghost use Rattle.rtlgen_definition.specs.Gen.{gen};
-ghost use Rattle.cfarm_build.specs.Built.{IsBuiltBack};
+ghost use Rattle.cfarm_build.specs.Built.{GivesBuilt};
 ghost use Rattle.cfarm_build.specs.Gone.{HaveGone};
-ghost use Rattle.cfarm_build.specs.Refused.{IsUnbuilt};
+ghost use Rattle.cfarm_build.specs.Refused.{GivesUnbuilt};
 ghost use Rattle.cfarm_build_turns.specs.Asked.{MayBeAsked};
 
-use crate::given_back::GivenBack;
 use crate::host::Host;
 use cfarm_build_folder::{BuildError, Farm};
 use cfarm_build_linking::built_by;
 use cfarm_build_offers::Oracles;
-use cfarm_build_turns::{Built, FarmNode, all_at_rest, met_all, run_rounds};
+use cfarm_build_turns::{Built, FarmNode, disks_back, met_all, run_rounds};
 use cfarm_options::Meter;
 use durable_pair::Pair;
 use farm_nodes_source::Source;
@@ -63,8 +62,8 @@ fn gone<
 
 /// Compiles a C text that was made ready by a farm with these quorums and a node for each pair of disks, a thread for each node, each of which
 /// takes so many turns at most. Then each two neighbours meet, and the program is linked, with its bundle where that is asked for. Between
-/// rounds of turns it is told how far they are. Whatever it comes to, the disks are given back: with the nodes, or the pairs where the farm did
-/// not open.
+/// rounds of turns it is told how far they are. Whatever it comes to, the disks are given back, in their order: those of the nodes, or the pairs
+/// where the farm did not open.
 pub fn build<
     D: Pair + Drop + Send,
     O: Oracles + Drop + Send,
@@ -81,7 +80,7 @@ pub fn build<
     quorums: Quorums,
     bundles: bool,
     meter: &mut M,
-) -> (Result<Built, BuildError>, GivenBack<D, H>)
+) -> (Result<Built, BuildError>, Vec<D>)
     requires size { length disks.items ≡ quorums.nodes }
     requires oracles { length oracles.items ≡ length disks.items }
 
@@ -90,30 +89,33 @@ pub fn build<
     requires names { HaveNames (program_tree source.program) }
     requires count { length (arc_value source.translated).functions ≤ 64 }
 
-    // Each two neighbours of the nodes that are given back met, and all functions were counted. So every node has learned the same offers, and
-    // what each would link is one program: the bytes are its text, it keeps the meaning of the C program, and the report tells the offers. Each
-    // node's disk holds its journal.
-    ensures built { IfOk result.0 (IsBuiltBack D.Disk D.Pair.own quorums seed turns source disks.items result.1) }
+    // Each two neighbours of the nodes met, and all functions were counted. So every node has learned the same offers, and what each would link
+    // is one program: the bytes are its text, it keeps the meaning of the C program, and the report tells the offers. The disks of the nodes come
+    // back, and each one's holds its journal.
+    ensures built { IfOk result.0 (GivesBuilt D.Disk D.Pair.own H.Naming quorums seed turns source disks result.1) }
 
     // There is a bundle where it is asked for: that of the offers of which the program is linked.
     ensures asked { IfOk result.0 (λ built. is_some built.bundle ≡ bundles) }
 
     // The disks come first, then the lowest node that failed, for which there is a cause, then what is not counted, or not linked. Behind the
-    // opening the nodes are given back, and each one's disk holds its journal.
-    ensures refused { IfErr result.0 (IsUnbuilt D.Disk D.Pair.own quorums seed turns source disks.items result.1) }
+    // opening the disks of the nodes come back, and each one's holds its journal.
+    ensures refused { IfErr result.0 (GivesUnbuilt D.Disk D.Pair.own H.Naming quorums seed turns source disks result.1) }
+
+    // There are as many as were given.
+    ensures back { length result.1.items ≡ length disks.items }
 {
     let (rt, alloc, hall) = (host.threads, host.alloc, host.hall);
     // There is one node at least.
     let _nodes = quorums.nodes();
     let Ok(spare) = Vec::with_capacity(alloc, disks.len()) else {
-        return (Err(BuildError::NoMemory), GivenBack::Pairs(disks));
+        return (Err(BuildError::NoMemory), disks);
     };
     let farm = match Farm::over(rt, alloc, hall, source, disks, oracles, seed, quorums) {
         Ok(farm) => farm,
-        Err((disks, fault)) => return (Err(BuildError::Disks(fault)), GivenBack::Pairs(disks)),
+        Err((disks, fault)) => return (Err(BuildError::Disks(fault)), disks),
     };
     meter.opened();
     let Farm { source, nodes } = farm;
     let (made, nodes) = gone(host, &source, nodes, turns, bundles, meter);
-    (made, GivenBack::Nodes(all_at_rest(nodes, spare)))
+    (made, disks_back(nodes, spare))
 }

@@ -1,22 +1,29 @@
 //! From a text and its journals to what is built.
 
-ghost use Rattle.std.specs.Prelude.{◌≡◌, IfOk, IfErr, is_some, length};
+ghost use Rattle.std.specs.Prelude.{◌≡◌, ◌≤◌, IfOk, IfErr, is_some, length};
+ghost use Rattle.std.specs.Arc.{arc_value};
+ghost use Rattle.c_checker_rules.specs.Checked.{program_tree};
+ghost use Rattle.cminor_lowering.specs.Programs.{low};
+ghost use Rattle.cminor_program_ranges.specs.Names.{HaveNames};
+ghost use Rattle.rtlgen_definition.specs.Gen.{gen};
 ghost use Rattle.cfarm_files.specs.Locking.{CoversFolder};
+ghost use Rattle.cfarm_files.specs.Placing.{Makes};
 ghost use Rattle.cfarm_options.specs.Quorums.{quorums_of};
-ghost use Rattle.cfarm_build.specs.Farmed.{FarmCompiles, FarmCompilesNot};
+ghost use Rattle.cfarm_build_folder.specs.Disks.{IsJournal};
+ghost use Rattle.cfarm_build.specs.Farmed.{FarmCompiles, FarmCompilesNot, FarmMakes, FarmMakesNot};
 
 use crate::building::build;
 use crate::farm::Farm;
-use crate::given_back::GivenBack;
 use crate::host::Host;
 use cfarm_build_folder::{
-    BuildError, BuildingError, Optimisers, Optimising, locked, old_among, open_disks, optimisers_of,
+    BuildError, BuildingError, JournalPaths, Optimisers, Optimising, close_disks, locked,
+    old_among, open_disks, optimisers_of,
 };
-use cfarm_build_offers::{NodeOffers, Outside, outside_of, read_given, tell_ignored};
+use cfarm_build_offers::{NodeOffers, Outside, outside_of, read_given};
 use cfarm_build_turns::Built;
 use cfarm_files::Files;
 use cfarm_options::{BuildOptions, Meter, Optimise};
-use farm_nodes_source::prepare;
+use farm_nodes_source::{Source, prepare};
 use lang_base::{Named, NoMemory};
 use paxos_core_world::quorum::Quorums;
 use rooms_hall::Naming;
@@ -62,9 +69,57 @@ fn oracles_of<'a>(
     }
 }
 
+/// What a farm builds of what was made ready, with the quorums that are asked for, over the journals of the folder, whose lock is had. Each disk
+/// that is opened is closed again.
+fn made_under<H: Naming + Send, R: Threads + Wait + Sync, F: Files, M: Meter>(
+    host: &Host<'_, H, R>,
+    source: Source,
+    options: BuildOptions<'_>,
+    quorums: Quorums,
+    files: &mut F,
+    lock: &F::Lock,
+    meter: &mut M,
+    given: &mut [NodeOffers],
+) -> Result<Built, BuildingError>
+    requires locked { CoversFolder (F.covers lock.now) options.folder.now }
+    requires quorums { quorums ≡ quorums_of options }
+    requires translated { arc_value source.translated ≡ gen (low (program_tree source.program)) }
+    requires names { HaveNames (program_tree source.program) }
+    requires count { length (arc_value source.translated).functions ≤ 64 }
+    ensures built { IfOk result (FarmMakes ⟦<F as Farm<H>>⟧ options.entry source files) }
+    ensures asked { IfOk result (λ built. is_some built.bundle ≡ is_some options.entry.bundle) }
+    ensures refused { IfErr result (FarmMakesNot ⟦<F as Farm<H>>⟧ options.entry source files) }
+    ensures made { Makes (F.placed files.old) (F.placed files.new) (IsJournal options.entry.folder.now) }
+{
+    let alloc = host.alloc;
+    let Some(paths) = JournalPaths::of(alloc, options) else {
+        return Err(BuildingError::Build(BuildError::NoMemory));
+    };
+    let disks = match open_disks(alloc, &paths, files, lock) {
+        Ok(disks) => disks,
+        Err(fault) => return Err(fault),
+    };
+    meter.found(old_among(&*files, &disks), disks.len());
+    let nodes = usize::from(quorums.nodes());
+    let Ok(oracles) = oracles_of(alloc, options, nodes, given) else {
+        close_disks(&paths, files, lock, disks);
+        return Err(BuildingError::Build(BuildError::NoMemory));
+    };
+    let (turns, seed) = (u64::from(options.turns), options.seed);
+    let bundles = options.bundle.is_some();
+    let (made, back) = build(
+        host, source, disks, oracles, turns, seed, quorums, bundles, meter,
+    );
+    close_disks(&paths, files, lock, back);
+    match made {
+        Ok(built) => Ok(built),
+        Err(fault) => Err(BuildingError::Build(fault)),
+    }
+}
+
 /// What is built of a text by a farm with the quorums that are asked for over the journals of the folder, and the folder's lock. The text
-/// comes first, then the lock, then the offers that were made outside, then the journals, then the farm. The disks are given back.
-fn compiled_by<H: Naming + Send, R: Threads + Wait + Sync, F: Files, M: Meter>(
+/// comes first, then the lock, then the offers that were made outside, which are left in `given`, then the journals, then the farm.
+pub(crate) fn compiled<H: Naming + Send, R: Threads + Wait + Sync, F: Files, M: Meter>(
     host: &Host<'_, H, R>,
     text: &[u8],
     options: BuildOptions<'_>,
@@ -72,28 +127,22 @@ fn compiled_by<H: Naming + Send, R: Threads + Wait + Sync, F: Files, M: Meter>(
     files: &mut F,
     meter: &mut M,
     given: &mut Vec<NodeOffers>,
-) -> (
-    Result<(Built, F::Lock), BuildingError>,
-    GivenBack<F::Disk, H>,
-)
+) -> Result<(Built, F::Lock), BuildingError>
     requires leave { F.may_lock files.now }
     requires quorums { quorums ≡ quorums_of options }
-    ensures built { IfOk result.0 (λ r. FarmCompiles ⟦<F as Farm<H>>⟧ options.entry text.now files result.1 r.0) }
-    ensures asked { IfOk result.0 (λ r. is_some r.0.bundle ≡ is_some options.entry.bundle) }
-    ensures locked { IfOk result.0 (λ r. CoversFolder (F.covers r.1) options.entry.folder.now) }
-    ensures refused { IfErr result.0 (FarmCompilesNot ⟦<F as Farm<H>>⟧ options.entry text.now files result.1) }
+    ensures built { IfOk result (λ r. FarmCompiles ⟦<F as Farm<H>>⟧ options.entry text.now files r.0) }
+    ensures asked { IfOk result (λ r. is_some r.0.bundle ≡ is_some options.entry.bundle) }
+    ensures locked { IfOk result (λ r. CoversFolder (F.covers r.1) options.entry.folder.now) }
+    ensures refused { IfErr result (FarmCompilesNot ⟦<F as Farm<H>>⟧ options.entry text.now files) }
 {
     let alloc = host.alloc;
     let source = match prepare(alloc, text) {
         Ok(source) => source,
-        Err(fault) => return (
-            Err(BuildingError::Build(BuildError::Source(fault))),
-            GivenBack::Nothing,
-        ),
+        Err(fault) => return Err(BuildingError::Build(BuildError::Source(fault))),
     };
     let lock = match locked(alloc, options.folder, files) {
         Ok(lock) => lock,
-        Err(fault) => return (Err(fault), GivenBack::Nothing),
+        Err(fault) => return Err(fault),
     };
     match given_in(
         alloc,
@@ -102,56 +151,11 @@ fn compiled_by<H: Naming + Send, R: Threads + Wait + Sync, F: Files, M: Meter>(
         source.translated.functions.as_slice(),
     ) {
         Ok(found) => *given = found,
-        Err(NoMemory) => return (
-            Err(BuildingError::Build(BuildError::NoMemory)),
-            GivenBack::Nothing,
-        ),
+        Err(NoMemory) => return Err(BuildingError::Build(BuildError::NoMemory)),
     }
-    let disks = match open_disks(alloc, options, files, &lock) {
-        Ok(disks) => disks,
-        Err(fault) => return (Err(fault), GivenBack::Nothing),
-    };
-    meter.found(old_among(&*files, &disks), disks.len());
-    let nodes = usize::from(quorums.nodes());
-    let Ok(oracles) = oracles_of(alloc, options, nodes, given.as_mut_slice()) else {
-        return (
-            Err(BuildingError::Build(BuildError::NoMemory)),
-            GivenBack::Pairs(disks),
-        );
-    };
-    let (turns, seed) = (u64::from(options.turns), options.seed);
-    let bundles = options.bundle.is_some();
-    let (made, back) = build(
-        host, source, disks, oracles, turns, seed, quorums, bundles, meter,
-    );
-    match made {
-        Ok(built) => (Ok((built, lock)), back),
-        Err(fault) => (Err(BuildingError::Build(fault)), back),
+    let offers = given.as_mut_slice();
+    match made_under(host, source, options, quorums, files, &lock, meter, offers) {
+        Ok(built) => Ok((built, lock)),
+        Err(fault) => Err(fault),
     }
-}
-
-/// The same, with nothing shown any more behind it but what was ignored.
-pub(crate) fn compiled<H: Naming + Send, R: Threads + Wait + Sync, F: Files, M: Meter>(
-    host: &Host<'_, H, R>,
-    text: &[u8],
-    options: BuildOptions<'_>,
-    quorums: Quorums,
-    files: &mut F,
-    meter: &mut M,
-) -> (
-    Result<(Built, F::Lock), BuildingError>,
-    GivenBack<F::Disk, H>,
-)
-    requires leave { F.may_lock files.now }
-    requires quorums { quorums ≡ quorums_of options }
-    ensures built { IfOk result.0 (λ r. FarmCompiles ⟦<F as Farm<H>>⟧ options.entry text.now files result.1 r.0) }
-    ensures asked { IfOk result.0 (λ r. is_some r.0.bundle ≡ is_some options.entry.bundle) }
-    ensures locked { IfOk result.0 (λ r. CoversFolder (F.covers r.1) options.entry.folder.now) }
-    ensures refused { IfErr result.0 (FarmCompilesNot ⟦<F as Farm<H>>⟧ options.entry text.now files result.1) }
-{
-    let mut given = Vec::new(host.alloc);
-    let made = compiled_by(host, text, options, quorums, files, meter, &mut given);
-    meter.clear();
-    tell_ignored(meter, &given);
-    made
 }

@@ -6,7 +6,7 @@ use Rattle.durable_pair.specs.Images.{IsSpent}
 use Rattle.paxos_core_world.specs.Quorum.{AreQuorums, Sizes}
 use Rattle.acceptor_log.specs.declared.log.Log.{Log}
 use Rattle.rooms_hall.specs.declared.hall.Naming as naming
-use Rattle.rooms_crash_heard.specs.Heard.{AllHearOf, back, forth, HearsOfAll}
+use Rattle.rooms_crash_heard.specs.Heard.{AllHearOf, back as way_back, forth, HearsOfAll}
 use Rattle.rooms_crash_heard.proofs.Neighbours.{neighbours_hear}
 use Rattle.farm_nodes_source.specs.declared.source.Source.{Source}
 use Rattle.farm_nodes_crash.specs.Meeting.{HearAll}
@@ -15,54 +15,52 @@ use Rattle.farm_nodes_crash.proofs.AtRest.{met_nodes_rest}
 use Rattle.farm_nodes_crash.proofs.Journals.{left_journals_stand}
 use Rattle.farm_nodes_crash.proofs.Reopening.{left_rooms_stand}
 use Rattle.cfarm_build_meeting.specs.Twice.{MetTwice}
-use Rattle.cfarm_build_turns.specs.Resting.{Resting}
 use Rattle.cfarm_build.specs.Built.{Built}
-use Rattle.cfarm_build_crash.specs.Again.{BuildOpensAgain, IsLeftOfBuild, functions_in}
+use Rattle.cfarm_build_crash.specs.Again.{OpensAgain, IsLeftOfBuild, functions_in}
 use Rattle.cfarm_build_crash.proofs.Nodes.{log_at, met, node_at, seats_now, seats_then, was_left}
 
-module _ {D : Type 0} (disk : disks.Ghosts D) (pair : pairs.Ghosts D) (q : Sizes) (sizes : AreQuorums q) (source : Source) (given : List D) {H : Type 0} {h : naming.Ghosts H}
-    (nodes : List (Resting D H h)) (built : Built) (left : List D) (of : IsLeftOfBuild disk pair q source given nodes built left) where
+module _ {D : Type 0} (disk : disks.Ghosts D) (pair : pairs.Ghosts D) {H : Type 0} (h : naming.Ghosts H) (q : Sizes) (sizes : AreQuorums q) (source : Source)
+    (given back : List D) (built : Built) (left : List D) (of : IsLeftOfBuild disk pair h q source given back built left) where
   pub some_nodes : 0 < q.nodes
   some_nodes = let two = sizes.least in omega (arith, two)
 
   abbrev pub some_log : Log D
-  some_log = (node_at disk pair q source given nodes built left of 0 some_nodes).0.log
+  some_log = (node_at disk pair h q source given back built left of 0 some_nodes).0.log
 
-  abbrev pub twice : MetTwice q (functions_in source) (seats_then disk pair q source given nodes built left of) (seats_now disk pair q source given nodes built left of)
-  twice = met disk pair q source given nodes built left of some_nodes
+  abbrev pub twice : MetTwice q (functions_in source) (seats_then disk pair h q source given back built left of) (seats_now disk pair h q source given back built left of)
+  twice = met disk pair h q source given back built left of some_nodes
 
   -- the last node hears of all, and all of it again
-  abbrev pub hear : HearAll q (functions_in source) twice.met.last (seats_then disk pair q source given nodes built left of)
+  abbrev pub hear : HearAll q (functions_in source) twice.met.last (seats_then disk pair h q source given back built left of)
   hear = record {
     one = let is = twice.met.nodes in omega (arith, is);
     first = forth twice.met.last;
-    second = back twice.met.last;
+    second = way_back twice.met.last;
     between = twice.met.between;
-    new = seats_now disk pair q source given nodes built left of;
+    new = seats_now disk pair h q source given back built left of;
     met = twice.met.met;
     heard = subst (λ (n : ℕ). HearsOfAll (forth twice.met.last) n twice.met.last) (sym twice.met.nodes) (neighbours_hear twice.met.last).0;
     met_again = twice.met.met_again;
-    hear = subst (λ (n : ℕ). AllHearOf (back twice.met.last) n twice.met.last) (sym twice.met.nodes) (neighbours_hear twice.met.last).1;
+    hear = subst (λ (n : ℕ). AllHearOf (way_back twice.met.last) n twice.met.last) (sym twice.met.nodes) (neighbours_hear twice.met.last).1;
   }
 
-  rest : RoomsRest q (functions_in source) (seats_then disk pair q source given nodes built left of)
-  rest = met_nodes_rest disk pair q source.digest (functions_in source) (log_at disk pair q source given nodes built left of some_log)
-      (seats_then disk pair q source given nodes built left of) (λ i. None) (was_left disk pair q source given nodes built left of some_log).nodes
+  rest : RoomsRest q (functions_in source) (seats_then disk pair h q source given back built left of)
+  rest = met_nodes_rest disk pair q source.digest (functions_in source) (log_at disk pair h q source given back built left of some_log)
+      (seats_then disk pair h q source given back built left of) (λ i. None) (was_left disk pair h q source given back built left of some_log).nodes
       twice.met.last hear
 
-pub build_opens_again : {D : Type 0} (disk : disks.Ghosts D) (pair : pairs.Ghosts D) (q : Sizes) → AreQuorums q
+pub build_opens_again : {D : Type 0} (disk : disks.Ghosts D) (pair : pairs.Ghosts D) {H : Type 0} (h : naming.Ghosts H) (q : Sizes) → AreQuorums q
     → ((p : D) (d : List ℕ) → disk.is_honest p → pair.old_may p d → IsSpent d)
     → ((p : D) (c : List ℕ) → disk.is_honest p → pair.new_may p c → disk.may_leave p c)
-    → (source : Source) (given : List D) {H : Type 0} {h : naming.Ghosts H} (nodes : List (Resting D H h)) (built : Built) (left : List D)
-    → BuildOpensAgain disk pair q source given nodes built left
-build_opens_again disk pair q sizes honest_spent new_is_left source given nodes built left of =
-    let log = log_at disk pair q source given nodes built left of (some_log disk pair q sizes source given nodes built left of) in
-    let seats = seats_then disk pair q source given nodes built left of in
-    let all = was_left disk pair q source given nodes built left of (some_log disk pair q sizes source given nodes built left of) in
+    → (source : Source) (given back : List D) (built : Built) (left : List D) → OpensAgain disk pair h q source given back built left
+build_opens_again disk pair h q sizes honest_spent new_is_left source given back built left of =
+    let log = log_at disk pair h q source given back built left of (some_log disk pair h q sizes source given back built left of) in
+    let seats = seats_then disk pair h q source given back built left of in
+    let all = was_left disk pair h q source given back built left of (some_log disk pair h q sizes source given back built left of) in
     let stand = left_journals_stand disk pair q honest_spent new_is_left source.digest (functions_in source) log seats (λ i. None) left all in
     record {
       journals = stand.0;
       records = stand.1;
       rooms = left_rooms_stand disk pair q honest_spent new_is_left source.digest (functions_in source) log seats (λ i. None) left all
-          (rest disk pair q sizes source given nodes built left of);
+          (rest disk pair h q sizes source given back built left of);
     }

@@ -47,15 +47,15 @@ use Rattle.farm_nodes_crash.proofs.Heard.{heard_is_learned_again}
 use Rattle.farm_nodes_crash.proofs.Meeting.{counted as counted_on}
 use Rattle.farm_nodes_crash.proofs.Nodes.{own_records, own_stands}
 use Rattle.cfarm_build_meeting.proofs.Meets.{all_here, seats_of}
-use Rattle.cfarm_build_turns.specs.Alike.{HaveCounted}
-use Rattle.cfarm_build_turns.specs.Neighbours.{EachTwo}
-use Rattle.cfarm_build_turns.specs.Node.{Node, node}
-use Rattle.cfarm_build_turns.specs.Resting.{Resting}
+use Rattle.cfarm_build.specs.Alike.{HaveCounted}
+use Rattle.cfarm_build.specs.Neighbours.{EachTwo}
+use Rattle.cfarm_build.specs.Node.{Node, node}
+use Rattle.cfarm_build.specs.Resting.{Resting}
 use Rattle.cfarm_build.specs.Built.{Built, nodes_seen}
-use Rattle.cfarm_build_crash.specs.Again.{BuildLinksAgain, IsLeftOfBuild, functions_in, program_of_seats}
+use Rattle.cfarm_build_crash.specs.Again.{LinksAgain, IsLeftOfBuild, functions_in, program_of_seats}
 use Rattle.cfarm_build_crash.specs.Later.{AreLaterSeats, SeesTextIn}
 use Rattle.cfarm_build_crash.proofs.Left.{hear, some_log, some_nodes}
-use Rattle.cfarm_build_crash.proofs.Nodes.{is_node, log_at, met, node_at, nodes_long, seats_then, was_left}
+use Rattle.cfarm_build_crash.proofs.Nodes.{is_node, left_long, left_so, log_at, met, node_at, seats_then, was_left}
 use Rattle.cfarm_build_crash.proofs.Numbers.{HasNumber, one_number}
 use Rattle.cfarm_build_crash.proofs.Offers.{AreFour, AreToldApart, are_four, decided_at, equal_lists, same_offer, same_some}
 
@@ -115,11 +115,13 @@ was_offered q i s seat v e =
     subst (λ (x : Sizes). HasOffered x.nodes (seen_world s).nodes v) (sym seat.stands.quorums ∙ seat.quorums)
     (inv.offered chosen.0 v (chosen_backed o.quorums (seen_world s) inv.sizes chosen.0 v chosen.1))
 
-module _ {D : Type 0} (disk : disks.Ghosts D) (pair : pairs.Ghosts D) (q : Sizes) (sizes : AreQuorums q)
+module _ {D : Type 0} (disk : disks.Ghosts D) (pair : pairs.Ghosts D) {H : Type 0} (h : naming.Ghosts H) (q : Sizes) (sizes : AreQuorums q)
     (honest_spent : (p : D) (d : List ℕ) → disk.is_honest p → pair.old_may p d → IsSpent d)
     (new_is_left : (p : D) (c : List ℕ) → disk.is_honest p → pair.new_may p c → disk.may_leave p c) (apart : AllToldApart)
-    (source : Source) (given : List D) {H : Type 0} {h : naming.Ghosts H} (nodes : List (Resting D H h)) (built : Built) (left : List D)
-    (of : IsLeftOfBuild disk pair q source given nodes built left) where
+    (source : Source) (given back : List D) (built : Built) (left : List D) (of : IsLeftOfBuild disk pair h q source given back built left) where
+  abbrev nodes : List (Resting D H h)
+  nodes = of.is_built.nodes
+
   abbrev functions : ℕ
   functions = functions_in source
 
@@ -127,19 +129,19 @@ module _ {D : Type 0} (disk : disks.Ghosts D) (pair : pairs.Ghosts D) (q : Sizes
   seen_at i n e = map_at (λ (x : Resting D H h). node x.log x.seats.items x.halted) nodes i n e
 
   counted : EachTwo (λ n m. HaveCounted n.seats.items m.seats.items) nodes
-  counted k n m en em = of.is_built.makes.counted k (node n.log n.seats.items n.halted) (node m.log m.seats.items m.halted) (seen_at k n en) (seen_at (suc k) m em)
+  counted k n m en em = of.is_built.are.makes.counted k (node n.log n.seats.items n.halted) (node m.log m.seats.items m.halted) (seen_at k n en) (seen_at (suc k) m em)
 
   seats_long : (i : ℕ) (n : Resting D H h) → slice_get nodes i ≡ Some n → length n.seats.items ≡ functions
-  seats_long i n e = sym (map_length (λ (s : NumberedSeat H h). four_of s) n.seats.items) ∙ (is_node disk pair q source given nodes built left of i n e).functions_are
+  seats_long i n e = sym (map_length (λ (s : NumberedSeat H h). four_of s) n.seats.items) ∙ (is_node disk pair h q source given back built left of i n e).functions_are
 
   abbrev first_learned : List (Option FourOffers)
-  first_learned = learned_by of.is_built.makes.node.seats
+  first_learned = learned_by of.is_built.are.makes.node.seats
 
   learned_same : (i : ℕ) (n : Resting D H h) → slice_get nodes i ≡ Some n → learned_by n.seats.items ≡ first_learned
-  learned_same i n e = all_here (λ (x : Node D H h). learned_by x.seats ≡ first_learned) (nodes_seen nodes) i (node n.log n.seats.items n.halted) of.is_built.makes.same (seen_at i n e)
+  learned_same i n e = all_here (λ (x : Node D H h). learned_by x.seats ≡ first_learned) (nodes_seen nodes) i (node n.log n.seats.items n.halted) of.is_built.are.makes.same (seen_at i n e)
 
   first_decided : IsUndecided first_learned → ⊥
-  first_decided = all_here (λ (x : Node D H h). IsUndecided (learned_by x.seats) → ⊥) (nodes_seen nodes) 0 of.is_built.makes.node of.is_built.makes.decided of.is_built.makes.first
+  first_decided = all_here (λ (x : Node D H h). IsUndecided (learned_by x.seats) → ⊥) (nodes_seen nodes) 0 of.is_built.are.makes.node of.is_built.are.makes.decided of.is_built.are.makes.first
 
   -- in the rooms of one function
   module _ (f : ℕ) (low : f < functions) (all : FourOffers) (all_is : slice_get first_learned f ≡ Some (Some all)) where
@@ -159,21 +161,21 @@ module _ {D : Type 0} (disk : disks.Ghosts D) (pair : pairs.Ghosts D) (q : Sizes
 
       number_at : (i : ℕ) → i < q.nodes → (v : ℕ) × Number i v
       number_at i lt =
-          let n = node_at disk pair q source given nodes built left of i lt in
+          let n = node_at disk pair h q source given back built left of i lt in
           let s = seat_at i n.0 n.1 in
           let v = number_of s.0 all s.2 pass in
           (v.0, record { node = n.0; there = n.1; seat = s.0; at = s.1; learned = v.1 })
 
       seat_of : (i v : ℕ) (n : Number i v) → IsSeatOf q i (words_of (four_of n.seat) pass)
       seat_of i v n = node_seat disk pair q source.digest functions i n.node.log (fours_of n.node.seats.items) None
-          (is_node disk pair q source given nodes built left of i n.node n.there) f pass (four_of n.seat)
+          (is_node disk pair h q source given back built left of i n.node n.there) f pass (four_of n.seat)
           (map_at (λ (x : NumberedSeat H h). four_of x) n.node.seats.items f n.seat n.at)
 
       abbrev last : ℕ
-      last = (met disk pair q source given nodes built left of (some_nodes disk pair q sizes source given nodes built left of)).met.last
+      last = (met disk pair h q source given back built left of (some_nodes disk pair h q sizes source given back built left of)).met.last
 
       last_low : last < q.nodes
-      last_low = let is = (met disk pair q source given nodes built left of (some_nodes disk pair q sizes source given nodes built left of)).met.nodes in omega (arith, is)
+      last_low = let is = (met disk pair h q source given back built left of (some_nodes disk pair h q sizes source given back built left of)).met.nodes in omega (arith, is)
 
       -- what the last node learned, and so all
       last_number : (v : ℕ) × Number last v
@@ -189,7 +191,7 @@ module _ {D : Type 0} (disk : disks.Ghosts D) (pair : pairs.Ghosts D) (q : Sizes
       own_number : Number v v
       own_number =
           let u = number_at v offered_there.0 in
-          let w = number_at 0 (some_nodes disk pair q sizes source given nodes built left of) in
+          let w = number_at 0 (some_nodes disk pair h q sizes source given back built left of) in
           let same = one_number (λ (n : Resting D H h). n.seats.items) nodes functions seats_long counted f pass v last w.0 u.0 v low w.1 u.1 last_number.1 in
           record { node = u.1.node; there = u.1.there; seat = u.1.seat; at = u.1.at; learned = u.1.learned ∙ ap (λ (x : ℕ). Some x) same }
 
@@ -205,7 +207,7 @@ module _ {D : Type 0} (disk : disks.Ghosts D) (pair : pairs.Ghosts D) (q : Sizes
           own_seat.stands.made (subst (λ (k : ℕ). IsTrue ((seen_world own).nodes k).offered) (sym own_seat.me) there.1)
 
       abbrev own_node : IsNode disk pair q source.digest functions v own_number.node.log (fours_of own_number.node.seats.items) None
-      own_node = is_node disk pair q source given nodes built left of v own_number.node own_number.there
+      own_node = is_node disk pair h q source given back built left of v own_number.node own_number.there
 
       abbrev told : List Record
       told = (own_node.sound.upto own_node.honest).0
@@ -232,33 +234,33 @@ module _ {D : Type 0} (disk : disks.Ghosts D) (pair : pairs.Ghosts D) (q : Sizes
         -- the number is learned again
         one_again : v ≡ later_number.0
         one_again =
-            let twice = met disk pair q source given nodes built left of (some_nodes disk pair q sizes source given nodes built left of) in
-            let log = some_log disk pair q sizes source given nodes built left of in
-            let all_left = was_left disk pair q source given nodes built left of log in
+            let twice = met disk pair h q source given back built left of (some_nodes disk pair h q sizes source given back built left of) in
+            let log = some_log disk pair h q sizes source given back built left of in
+            let all_left = was_left disk pair h q source given back built left of log in
             let n = last_number.1 in
-            let size = counted_on q functions (forth last) (seats_then disk pair q source given nodes built left of) twice.met.between twice.met.met
+            let size = counted_on q functions (forth last) (seats_then disk pair h q source given back built left of) twice.met.between twice.met.met
             (λ i lt. (all_left.nodes i lt).functions_are) last last_low in
             let b = found (twice.met.between last) f (omega (arith, low, size)) in
             let now = ap (λ (x : NodeSeats). slice_get x f) (seats_of (λ (x : Resting D H h). x.seats.items) nodes last n.node n.there)
             ∙ map_at (λ (x : NumberedSeat H h). four_of x) n.node.seats.items f n.seat n.at in
             let known = twice.knew f pass b.0 (four_of n.seat) v b.1 now n.learned in
-            heard_is_learned_again disk pair q sizes honest_spent new_is_left source.digest functions (log_at disk pair q source given nodes built left of log)
-            (seats_then disk pair q source given nodes built left of) (λ i. None) left all_left last (hear disk pair q sizes source given nodes built left of)
+            heard_is_learned_again disk pair q sizes honest_spent new_is_left source.digest functions (log_at disk pair h q source given back built left of log)
+            (seats_then disk pair h q source given back built left of) (λ i. None) left all_left last (hear disk pair h q sizes source given back built left of)
             again kept opened f pass b.0 (words_of (four_of s) pass) low b.1 (are.rooms f pass (four_of s) four_there) v later_number.0 known later_number.1
 
         left_at : (p : D) × (slice_get left v ≡ Some p)
-        left_at = let low_v = offered_there.0 in found left v (omega (arith, low_v, of.crash.count, nodes_long disk pair q source given nodes built left of))
+        left_at = let low_v = offered_there.0 in found left v (omega (arith, low_v, left_long disk pair h q source given back built left of))
 
         log_again : (j : Log D) × (slice_get again v ≡ Some j)
         log_again =
             let low_v = offered_there.0 in
-            found again v (omega (arith, low_v, opened.journals.count, of.crash.count, nodes_long disk pair q source given nodes built left of))
+            found again v (omega (arith, low_v, opened.journals.count, left_long disk pair h q source given back built left of))
 
         -- and the journal tells the text again
         told_again : last_offer_in (acknowledged disk.seen log_again.0) (room_at f pass) ≡ Some own_told.0
         told_again =
             let on = opened.journals.each v left_at.0 log_again.0 left_at.1 log_again.1 in
-            let is_left = of.crash.each v own_number.node left_at.0 own_number.there left_at.1 in
+            let is_left = left_so disk pair h q source given back built left of v own_number.node left_at.0 own_number.there left_at.1 in
             let either = own_records disk pair q source.digest functions honest_spent new_is_left v own_number.node.log (fours_of own_number.node.seats.items) None own_node
             left_at.0 is_left on.0
             (own_stands disk pair q source.digest functions honest_spent new_is_left v own_number.node.log (fours_of own_number.node.seats.items) None own_node
@@ -279,7 +281,7 @@ module _ {D : Type 0} (disk : disks.Ghosts D) (pair : pairs.Ghosts D) (q : Sizes
       {L : Type 0} {l : naming.Ghosts L} (later : List (NumberedSeat L l)) (are : AreLaterSeats disk q functions again kept later)
       (decided : IsUndecided (learned_by later) → ⊥) where
     first_node : (n : Resting D H h) × (slice_get nodes 0 ≡ Some n)
-    first_node = node_at disk pair q source given nodes built left of 0 (some_nodes disk pair q sizes source given nodes built left of)
+    first_node = node_at disk pair h q source given back built left of 0 (some_nodes disk pair h q sizes source given back built left of)
 
     first_long : length first_learned ≡ functions
     first_long =
@@ -303,16 +305,16 @@ module _ {D : Type 0} (disk : disks.Ghosts D) (pair : pairs.Ghosts D) (q : Sizes
 
     pub links_same : program_of_seats source later ≡ built.program.items
     links_same =
-        let linked = of.is_built.makes.linked in
+        let linked = of.is_built.are.makes.linked in
         let first = all_here (λ (x : Node D H h). linked.program ≡ linked_offers (gen (low (program_tree source.program))) (learned_by x.seats)) (nodes_seen nodes) 0
-        of.is_built.makes.node linked.linked of.is_built.makes.first in
+        of.is_built.are.makes.node linked.linked of.is_built.are.makes.first in
         ap (λ (o : List (Option FourOffers)). program_text 4 spelling (linked_offers (gen (low (program_tree source.program))) o)) learned_again
         ∙ (ap (λ p. program_text 4 spelling p) (sym first) ∙ sym linked.text)
 
-pub build_links_again : {D : Type 0} (disk : disks.Ghosts D) (pair : pairs.Ghosts D) (q : Sizes) → AreQuorums q
+pub build_links_again : {D : Type 0} (disk : disks.Ghosts D) (pair : pairs.Ghosts D) {H : Type 0} (h : naming.Ghosts H) (q : Sizes) → AreQuorums q
     → ((p : D) (d : List ℕ) → disk.is_honest p → pair.old_may p d → IsSpent d)
     → ((p : D) (c : List ℕ) → disk.is_honest p → pair.new_may p c → disk.may_leave p c) → AllToldApart
-    → (source : Source) (given : List D) {H : Type 0} {h : naming.Ghosts H} (nodes : List (Resting D H h)) (built : Built) (left : List D)
-    → {L : Type 0} {l : naming.Ghosts L} (later : List (NumberedSeat L l)) → BuildLinksAgain disk pair q source given nodes built left later
-build_links_again disk pair q sizes honest_spent new_is_left apart source given nodes built left later of again kept opened are decided =
-    links_same disk pair q sizes honest_spent new_is_left apart source given nodes built left of again kept opened later are decided
+    → (source : Source) (given back : List D) (built : Built) (left : List D) {L : Type 0} {l : naming.Ghosts L} (later : List (NumberedSeat L l))
+    → LinksAgain disk pair h q source given back built left later
+build_links_again disk pair h q sizes honest_spent new_is_left apart source given back built left later of again kept opened are decided =
+    links_same disk pair h q sizes honest_spent new_is_left apart source given back built left of again kept opened later are decided

@@ -10,8 +10,8 @@ use Rattle.farm_nodes_turn_node.specs.NumberedSeat.{NumberedSeat}
 use Rattle.farm_nodes_turn_node.specs.Which.{Which}
 use Rattle.farm_nodes_turn_node.specs.Which.TheVariants.{Constants, Expressions, Allocation, Order}
 use Rattle.farm_nodes_turn_node.proofs.Places.{found}
-use Rattle.cfarm_build_turns.specs.Alike.{HaveCounted}
-use Rattle.cfarm_build_turns.specs.Neighbours.{EachTwo}
+use Rattle.cfarm_build.specs.Alike.{HaveCounted}
+use Rattle.cfarm_build.specs.Neighbours.{EachTwo}
 use Rattle.cfarm_build_meeting.proofs.Learned.{counted_learned, first_learned, goes_learned, same_learned, second_learned}
 
 module _ {H : Type 0} {h : naming.Ghosts H} where

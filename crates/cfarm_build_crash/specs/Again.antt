@@ -1,4 +1,4 @@
--- What a crash leaves of the nodes that a build gave back: it opens again, and what is linked over it is the same program.
+-- What a crash leaves of the disks that a build gave back: it opens again, and what is linked over it is the same program.
 use Rattle.std.specs.Prelude.{◌≡◌, ℕ, List, length}
 use Rattle.std.specs.Arc.{arc_value}
 use Rattle.std.specs.Global.{Vec}
@@ -20,8 +20,7 @@ use Rattle.farm_nodes_link.specs.Learned.{IsUndecided, learned_by}
 use Rattle.farm_nodes_link.specs.Offered.{linked_offers}
 use Rattle.farm_nodes_crash.specs.Again.{AreOpenedOn}
 use Rattle.farm_nodes_crash.specs.Stand.{JournalsStand, RecordsStand, RoomsStand}
-use Rattle.cfarm_build_turns.specs.Resting.{Resting}
-use Rattle.cfarm_build.specs.Built.{Built, IsBuilt}
+use Rattle.cfarm_build.specs.Built.{Built, IsBuiltBack}
 use Rattle.cfarm_build_crash.specs.Later.{AreLaterSeats}
 use Rattle.cfarm_build_crash.specs.Left.{AreLeftBehind}
 
@@ -33,16 +32,16 @@ functions_in source = length (arc_value source.translated).functions
 abbrev pub program_of_seats : Source → {H : Type 0} {h : naming.Ghosts H} → List (NumberedSeat H h) → List ℕ
 program_of_seats source seats = program_text 4 spelling (linked_offers (gen (low (program_tree source.program))) (learned_by seats))
 
-module _ {D : Type 0} (disk : disks.Ghosts D) (pair : pairs.Ghosts D) (q : Sizes) (source : Source) (given : List D) {H : Type 0} {h : naming.Ghosts H}
-    (nodes : List (Resting D H h)) (built : Built) (left : List D) where
-  -- These nodes built this, a node for each pair of disks that are honest, and a crash of all of them left these pairs.
+module _ {D : Type 0} (disk : disks.Ghosts D) (pair : pairs.Ghosts D) {H : Type 0} (h : naming.Ghosts H) (q : Sizes) (source : Source) (given back : List D)
+    (built : Built) (left : List D) where
+  -- Nodes built this, one for each pair of disks that are honest; it is their disks that came back, and a crash of all of those left these pairs.
   pub record IsLeftOfBuild : Type 0 where
     pub seed : ℕ
     pub turns : ℕ
     pub size : length given ≡ q.nodes
-    pub is_built : IsBuilt disk pair q seed turns source given nodes built
+    pub is_built : IsBuiltBack disk pair h q seed turns source given back built
     pub whole : AllByRecursion (λ p. pair.is_whole p) given
-    pub crash : AreLeftBehind disk pair q source.digest (functions_in source) nodes left
+    pub crash : AreLeftBehind disk pair back left
 
   -- No journal on them is refused, but for want of memory or where a device fails; no records are out of order, and no room is unsettled.
   pub record OpenAgain : Type 0 where
@@ -53,12 +52,12 @@ module _ {D : Type 0} (disk : disks.Ghosts D) (pair : pairs.Ghosts D) (q : Sizes
   -- ---- the promises
 
   -- it opens again
-  abbrev pub BuildOpensAgain : Type 0
-  BuildOpensAgain = IsLeftOfBuild → OpenAgain
+  abbrev pub OpensAgain : Type 0
+  OpensAgain = IsLeftOfBuild → OpenAgain
 
   -- whatever node of a farm that opened over it links all functions, it links this very program
-  abbrev pub BuildLinksAgain : {L : Type 0} {l : naming.Ghosts L} → List (NumberedSeat L l) → Type 0
-  BuildLinksAgain later =
+  abbrev pub LinksAgain : {L : Type 0} {l : naming.Ghosts L} → List (NumberedSeat L l) → Type 0
+  LinksAgain later =
       IsLeftOfBuild → (again : List (Log D)) (kept : List (Vec KeptPart)) → AreOpenedOn disk pair q source.digest (functions_in source) left again kept
       → AreLaterSeats disk q (functions_in source) again kept later → (IsUndecided (learned_by later) → ⊥)
       → program_of_seats source later ≡ built.program.items

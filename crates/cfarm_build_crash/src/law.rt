@@ -1,7 +1,7 @@
-ghost use Rattle.cfarm_build_crash.specs.Again.{BuildLinksAgain, BuildOpensAgain};
+ghost use Rattle.cfarm_build_crash.specs.Again.{LinksAgain, OpensAgain};
 
 use alloc_check::Alloc;
-use cfarm_build_turns::{Built, FarmNode};
+use cfarm_build::Built;
 use constprop_check::ConstProp;
 use cse_check::Cse;
 use durable_pair::Pair;
@@ -12,17 +12,17 @@ use offers::one_text;
 use paxos_core_world::quorum::Quorums;
 use rooms_hall::Naming;
 
-/// What a crash of all nodes that a build gave back leaves on their pairs of disks is refused neither with 401 to 404, but for want of memory or
-/// where a device fails, nor with 510; it does nothing.
+/// What a crash of all disks that a build gave back, those of its nodes, leaves on them is refused neither with 401 to 404, but for want of
+/// memory or where a device fails, nor with 510; it does nothing.
 pub fn opens_again<D: Pair, H: Naming>(
     quorums: Quorums,
     source: &Source,
     given: &[D],
-    nodes: &[FarmNode<D, (), H>],
+    back: &[D],
     built: &Built,
     left: &[D],
 )
-    ensures { BuildOpensAgain D.Disk D.Pair.own quorums source.now given.now nodes.now built.now left.now }
+    ensures { OpensAgain D.Disk D.Pair.own H.Naming quorums source.now given.now back.now built.now left.now }
 {
     let _count = quorums.nodes();
 }
@@ -32,12 +32,12 @@ pub fn links_again<D: Pair, H: Naming, L: Naming>(
     quorums: Quorums,
     source: &Source,
     given: &[D],
-    nodes: &[FarmNode<D, (), H>],
+    back: &[D],
     built: &Built,
     left: &[D],
     later: &[NumberedSeat<L>],
 )
-    ensures { BuildLinksAgain D.Disk D.Pair.own quorums source.now given.now nodes.now built.now left.now later.now }
+    ensures { LinksAgain D.Disk D.Pair.own H.Naming quorums source.now given.now back.now built.now left.now later.now }
 {
     let _count = quorums.nodes();
     one_text::<ConstProp>();

@@ -1,4 +1,4 @@
-//! What a crash leaves of the nodes that `build` gives back: it opens again, and links the same program.
+//! What a crash leaves of the disks that `build` gives back: it opens again, and links the same program.
 #![tactic(auto)]
 
 mod law;

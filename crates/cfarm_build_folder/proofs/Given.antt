@@ -1,10 +1,14 @@
 -- Disks of the nodes, one more at a time.
-use Rattle.std.proofs.Common.{◌≡◌, ℕ, zero, suc, ◌<◌, List, [], ◌∷◌, ◌++◌, length, Some, refl, sym, ap, subst, arith, inl, inr}
-use Rattle.std.specs.Prelude.{slice_get}
+use Rattle.std.proofs.Common.{◌≡◌, ℕ, zero, suc, ◌<◌, List, [], ◌∷◌, ◌++◌, length, Option, Some, refl, sym, ap, subst, arith, inl, inr}
+use Rattle.std.specs.Prelude.{String, slice_get}
 use Rattle.std.proofs.lemmas.Bool.{cases_eq}
 use Rattle.std.proofs.lemmas.Option.{slice_get_within}
 use Rattle.cfarm_files.specs.Placing.{GivesNoMore}
+use Rattle.cfarm_files.specs.Using.{DiskUse, UsesNone}
+use Rattle.cfarm_files.proofs.Uses.{none_uses}
 use Rattle.cfarm_build_folder.specs.Disks.{AreGiven, AreSome, HasNoDisk, IsOfNode}
+use Rattle.cfarm_build_folder.specs.Named.{AreNamed, ArePathsOf}
+use Rattle.cfarm_build_folder.specs.Used.{closings, openings}
 use Rattle.cfarm_build_folder.specs.declared.error.BuildingError.{BuildingError}
 
 front : {A : Type 0} (xs : List A) (x y : A) (k : ℕ) → k < length xs → slice_get (xs ++ x ∷ []) k ≡ Some y → slice_get xs k ≡ Some y
@@ -21,6 +25,21 @@ last (z ∷ xs) x y (suc k) end e = last xs x y k (omega (arith, end)) e
 longer : {A : Type 0} (xs : List A) (x : A) → length (xs ++ x ∷ []) ≡ suc (length xs)
 longer [] x = refl
 longer (z ∷ xs) x = ap suc (longer xs x)
+
+-- the paths of one node more
+module _ {Z : Type 0} (folder : List ℕ) where
+  pub none_named : AreNamed {Z = Z} folder []
+  none_named = λ node paths e. absurd (cc e)
+
+  pub one_named : (nodes : List (String Z × String Z)) (paths : String Z × String Z) → AreNamed folder nodes → ArePathsOf folder (length nodes) paths
+      → AreNamed folder (nodes ++ paths ∷ [])
+  one_named nodes paths named is = λ node p e. elim (cases_eq node (length nodes)) [
+    | inl at ↦ subst (λ x. ArePathsOf folder node x) (last nodes paths p node at e)
+        (subst (λ n. ArePathsOf folder n paths) (sym at) is)
+    | inr other ↦
+        let within = slice_get_within (nodes ++ paths ∷ []) node p e in
+        named node p (front nodes paths p node (omega (arith, other, within, longer nodes paths)) e)
+  ]
 
 module _ {D : Type 0} (may_give : List ℕ → List ℕ → D → Type 0) (folder : List ℕ) where
   pub none_given : AreSome may_give folder []
@@ -46,5 +65,14 @@ module _ {D : Type 0} (before after : List ℕ → List ℕ → D → Type 0) (n
   pub given_before : (count : ℕ) (given : List D) → AreGiven after folder count given → AreGiven before folder count given
   given_before count given are = record { count_is = are.count_is; some = some_before given are.some }
 
-  pub refused_before : (count : ℕ) (fault : BuildingError) → HasNoDisk after folder count fault → HasNoDisk before folder count fault
-  refused_before count fault lacks = record { given = lacks.given; some = some_before lacks.given lacks.some; below = lacks.below; refused = lacks.refused }
+  -- nor was a disk used before
+  module _ (used between now_used : Option (List (DiskUse D))) (unused : UsesNone used between) where
+    pub refused_before : (count : ℕ) (fault : BuildingError) → HasNoDisk after folder between now_used count fault
+        → HasNoDisk before folder used now_used count fault
+    refused_before count fault lacks = record {
+      given = lacks.given;
+      some = some_before lacks.given lacks.some;
+      below = lacks.below;
+      refused = lacks.refused;
+      closed = none_uses used between now_used (openings folder lacks.given ++ closings folder lacks.given) unused lacks.closed;
+    }

@@ -1,2 +1,5 @@
 pub mod Given
 pub mod Making
+pub mod Ordered
+pub mod Telling
+pub mod Stopping

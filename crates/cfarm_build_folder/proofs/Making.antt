@@ -1,5 +1,5 @@
 -- Files that are made, one after another.
-use Rattle.std.proofs.Common.{◌≡◌, ℕ, List, [], ◌∷◌, ◌++◌, map, Option, None, Some, refl, sym, ap, ◌∙◌}
+use Rattle.std.proofs.Common.{◌≡◌, ℕ, List, [], ◌∷◌, ◌++◌, map, Option, None, Some, refl, sym, ap, subst, ◌∙◌}
 use Rattle.std.specs.List.{AllByRecursion}
 use Rattle.std.proofs.lemmas.List.{append_assoc, append-nil, map-append}
 use Rattle.cfarm_files.specs.Placing.{Placed, KeepsFolder, Makes, Places, made_at}
@@ -35,6 +35,12 @@ module _ (IsSuch : List ℕ → Type 0) where
         all_both IsSuch one.0 two.0 one.2 two.2,
       )
 
+  -- nothing is made behind
+  pub makes_keeps : (a b c : Option (List Placed)) → Makes a b IsSuch → KeepsFolder b c → Makes a c IsSuch
+  makes_keeps None b c makes keeps = tt
+  makes_keeps (Some before) None c makes keeps = absurd (cc makes.1)
+  makes_keeps (Some before) (Some mid) c makes keeps = (makes.0, keeps ∙ makes.1, makes.2)
+
 -- what is known of the files after a put, and after none
 pub keeps_same : (o : Option (List Placed)) → KeepsFolder o o
 keeps_same None = tt
@@ -59,3 +65,7 @@ bundle_keeps (Some path) (Some bytes) a b c puts keeps = places_keeps a b c path
 -- the journal of a node is one
 pub of_node : (folder : List ℕ) (node : ℕ) (a b : Option (List Placed)) → Makes a b (λ path. path ≡ journal_path folder node) → Makes a b (IsJournal folder)
 of_node folder node a b makes = makes_weaker (IsJournal folder) (λ path. path ≡ journal_path folder node) a b (λ path is. (node, is)) makes
+
+-- those of this folder are those of that one
+pub journals_of : (folder other : List ℕ) (a b : Option (List Placed)) → folder ≡ other → Makes a b (IsJournal folder) → Makes a b (IsJournal other)
+journals_of folder other a b same makes = subst (λ f. Makes a b (IsJournal f)) same makes

@@ -1,10 +1,12 @@
 -- The disks of the nodes, over the files of a folder.
-use Rattle.std.specs.Prelude.{◌≡◌, ◌⊎◌, ◌<◌, ℕ, List, length, Some, slice_get}
+use Rattle.std.specs.Prelude.{◌≡◌, ◌⊎◌, ◌<◌, ℕ, List, length, Option, Some, slice_get}
 use Rattle.std.specs.String.{string_bytes}
 use Rattle.cfarm_build_faults.specs.declared.error.BuildError.TheVariants.{NoMemory, NoThread, Source, Disks, Failed, Undecided, Unlinked, Names}
 use Rattle.cfarm_build_folder.specs.declared.error.BuildingError.{BuildingError}
 use Rattle.cfarm_build_folder.specs.declared.error.BuildingError.TheVariants.{Build, File, Write}
+use Rattle.cfarm_build_folder.specs.Used.{OpensAndCloses}
 use Rattle.cfarm_files.specs.Locking.{lock_path}
+use Rattle.cfarm_files.specs.Using.{DiskUse}
 use Rattle.cfarm_options.specs.Paths.{journal_path, old_journal_path}
 
 -- the file of this path is refused, or memory was, which says nothing
@@ -33,9 +35,17 @@ IsRefusedAtEither path other (Build Names) = ⊥
 IsRefusedAtEither path other (File told) = (string_bytes told ≡ path) ⊎ (string_bytes told ≡ other)
 IsRefusedAtEither path other Write = ⊥
 
--- this is the path of some node's journal
+-- a file of this node is refused
+abbrev pub IsRefusedOf : List ℕ → ℕ → BuildingError → Type 0
+IsRefusedOf folder node fault = IsRefusedAtEither (journal_path folder node) (old_journal_path folder node) fault
+
+-- this is the path of this node's journal
+abbrev pub IsJournalOf : List ℕ → ℕ → List ℕ → Type 0
+IsJournalOf folder node path = path ≡ journal_path folder node
+
+-- of some node's
 abbrev pub IsJournal : List ℕ → List ℕ → Type 0
-IsJournal folder path = (node : ℕ) × (path ≡ journal_path folder node)
+IsJournal folder path = (node : ℕ) × IsJournalOf folder node path
 
 -- or that of the lock's file
 abbrev pub IsOwn : List ℕ → List ℕ → Type 0
@@ -55,9 +65,10 @@ module _ {D : Type 0} (may_give : List ℕ → List ℕ → D → Type 0) (folde
     pub count_is : length given ≡ count
     pub some : AreSome given
 
-  -- those of the nodes before this one were given, and one of this one's files is refused
-  pub record HasNoDisk (count : ℕ) (fault : BuildingError) : Type 0 where
+  -- Those of the nodes before this one were given, and one of this one's files is refused. Each that was given was closed as it was.
+  pub record HasNoDisk (used now_used : Option (List (DiskUse D))) (count : ℕ) (fault : BuildingError) : Type 0 where
     pub given : List D
     pub some : AreSome given
     pub below : length given < count
-    pub refused : IsRefusedAtEither (journal_path folder (length given)) (old_journal_path folder (length given)) fault
+    pub refused : IsRefusedOf folder (length given) fault
+    pub closed : OpensAndCloses folder used now_used given given

@@ -3,7 +3,10 @@ pub mod Asked
 pub mod Changed
 pub mod Disks
 pub mod Done
+pub mod Named
+pub mod Put
 pub mod Putting
+pub mod Used
 pub use Rattle.cfarm_build_faults.specs.Prepared
 pub use Rattle.cfarm_build_faults.specs.Refused
 pub use Rattle.cfarm_build_faults.specs.declared.error.BuildError

@@ -3,6 +3,7 @@
 ghost use Rattle.std.specs.Prelude.{◌≡◌, IfOk, IfErr};
 ghost use Rattle.cfarm_files.specs.Locking.{CoversFolder, lock_path};
 ghost use Rattle.cfarm_files.specs.Placing.{GivesNoMore, Makes};
+ghost use Rattle.cfarm_files.specs.Using.{UsesNone};
 ghost use Rattle.cfarm_build_folder.specs.Disks.{IsRefusedAt};
 
 use crate::error::BuildingError;
@@ -20,6 +21,7 @@ pub fn locked<F: Files>(
     ensures covers { IfOk result (λ lock. CoversFolder (F.covers lock) folder.now) }
     ensures refused { IfErr result (IsRefusedAt (lock_path folder.now)) }
     ensures made { Makes (F.placed files.old) (F.placed files.new) (λ path. path ≡ lock_path folder.now) }
+    ensures unused { UsesNone (F.used files.old) (F.used files.new) }
     ensures others { GivesNoMore (F.may_give files.old) (F.may_give files.new) }
 {
     let Ok(path) = lock_path(alloc, folder) else {

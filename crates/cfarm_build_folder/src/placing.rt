@@ -4,6 +4,7 @@ ghost use Rattle.std.specs.Prelude.{◌≡◌, OnOk, OnErr, IfErr, is_some, opti
 ghost use Rattle.std.specs.String.{string_bytes};
 ghost use Rattle.cfarm_files.specs.Locking.{CoversFolder};
 ghost use Rattle.cfarm_files.specs.Placing.{MayPlace, Places};
+ghost use Rattle.cfarm_files.specs.Using.{UsesNone};
 ghost use Rattle.cfarm_options.specs.Paths.{linked_path};
 ghost use Rattle.cfarm_build_folder.specs.Disks.{IsRefusedAt};
 ghost use Rattle.cfarm_build_folder.specs.Done.{HasNotPutBoth, HasPutBoth, HasPutBundle, MayHavePutBundle};
@@ -37,6 +38,7 @@ fn place<F: Files>(
     ensures put { OnOk result (Places (F.placed files.old) (F.placed files.new) (linked_path folder.now) program.now) }
     ensures refused { IfErr result (IsRefusedAt (linked_path folder.now)) }
     ensures whole { OnErr result (MayPlace (F.placed files.old) (F.placed files.new) (linked_path folder.now) program.now) }
+    ensures unused { UsesNone (F.used files.old) (F.used files.new) }
 {
     let Ok(path) = linked_path(alloc, folder) else {
         return Err(BuildingError::Build(BuildError::NoMemory));
@@ -48,7 +50,7 @@ fn place<F: Files>(
 }
 
 /// That the file of this path is refused.
-fn refused_at(alloc: Global, path: &str) -> BuildingError
+pub(crate) fn refused_at(alloc: Global, path: &str) -> BuildingError
     ensures { IsRefusedAt path.now result }
 {
     match path.to_string(alloc) {
@@ -67,6 +69,7 @@ fn place_bundle<F: Files>(
     ensures put { OnOk result (Places (F.placed files.old) (F.placed files.new) path.now bundle.now) }
     ensures refused { IfErr result (IsRefusedAt path.now) }
     ensures whole { OnErr result (MayPlace (F.placed files.old) (F.placed files.new) path.now bundle.now) }
+    ensures unused { UsesNone (F.used files.old) (F.used files.new) }
 {
     match files.put_at(path, bundle) {
         Ok(()) => Ok(()),
@@ -86,6 +89,7 @@ fn place_given<F: Files>(
     ensures put { OnOk result (HasPutBundle F.placed files (option_copied path.entry) bundle.now) }
     ensures refused { IfErr result (IsUnbundled (option_copied path.entry)) }
     ensures whole { OnErr result (MayHavePutBundle F.placed files (option_copied path.entry) bundle.now) }
+    ensures unused { UsesNone (F.used files.old) (F.used files.new) }
 {
     let Some(path) = path else {
         return Ok(());
@@ -109,6 +113,7 @@ pub fn place_both<F: Files>(
     requires made { is_some bundle.now ≡ is_some options.bundle }
     ensures put { OnOk result (HasPutBoth F.placed files options.entry bundle.now program.now) }
     ensures refused { IfErr result (HasNotPutBoth F.placed files options.entry bundle.now program.now) }
+    ensures unused { UsesNone (F.used files.old) (F.used files.new) }
 {
     match place_given(alloc, options.bundle, files, bundle) {
         Ok(()) => {}

@@ -1,2 +1,9 @@
 pub mod Counted
 pub mod Twice
+pub use Rattle.cfarm_build_result.specs.Alike
+pub use Rattle.cfarm_build_result.specs.Going
+pub use Rattle.cfarm_build_result.specs.Learned
+pub use Rattle.cfarm_build_result.specs.Neighbours
+pub use Rattle.cfarm_build_result.specs.Node
+pub use Rattle.cfarm_build_result.specs.Source
+pub use Rattle.cfarm_build_result.specs.declared.built.Built

@@ -1,7 +1,6 @@
 -- What is said of nodes is said of them at rest.
 use Rattle.std.proofs.Common.{◌≡◌, ℕ, zero, suc, List, [], ◌∷◌, map, length, None, refl, sym, ap, subst, subst₂, ◌∙◌, arith}
 use Rattle.std.specs.Arc.{arc_value}
-use Rattle.std.specs.Coded.{Coded-set, coded_ℕ}
 use Rattle.std.specs.List.{AllByRecursion, AllZip}
 use Rattle.std.proofs.lemmas.List.{length-map}
 use Rattle.std.proofs.lemmas.Option.{slice_get-map}
@@ -17,40 +16,19 @@ use Rattle.farm_nodes_turn_node.proofs.Places.{mapped}
 use Rattle.farm_nodes_turn_node.specs.Held.{fault_in}
 use Rattle.farm_nodes_turn_offer.specs.declared.halt.Fault.{Fault}
 use Rattle.paxos_core_world.specs.Quorum.{Sizes}
-use Rattle.cfarm_build_result.specs.Source.{Source}
-use Rattle.cfarm_build_result.proofs.Zips.{all_mapped, map_twice}
+use Rattle.cfarm_build_meeting.specs.Source.{Source}
+use Rattle.cfarm_build_meeting.proofs.Zips.{all_mapped, map_twice}
 use Rattle.cfarm_build_faults.specs.Back.{AreJournalsOn}
 use Rattle.cfarm_build_faults.specs.Opened.{AreOpenFromJournals}
 use Rattle.cfarm_build_faults.specs.Nodes.{NodeCameBack}
 use Rattle.cfarm_build_faults.specs.OneTurn.{TakesTurn}
 use Rattle.cfarm_build_meeting.specs.Twice.{HaveMetTwice}
 use Rattle.cfarm_build_turns.specs.Nodes.{AllHold, AreBack, HasStopped, HaveOpened, HoldsJournal, NodeStays, NodesMetTwice, failed_of, lowest_failed}
-use Rattle.cfarm_build_turns.specs.Resting.{Resting, rested}
+use Rattle.cfarm_build_turns.specs.Resting.{rested}
 
 pub nothing_left : {A : Type 0} (xs : List A) → length xs ≡ 0 → xs ≡ []
 nothing_left [] h = refl
 nothing_left (x ∷ xs) h = absurd (omega arith)
-
--- how many seats a node has is said once
-abbrev pub Covers : {D O H : Type 0} {h : naming.Ghosts H} → FarmNode D O H h → Type 0
-Covers n = length n.seats.items ≡ length (arc_value n.program).functions
-
-abbrev pub rested_so : {D O H : Type 0} {h : naming.Ghosts H} (n : FarmNode D O H h) → Covers n → Resting D H h
-rested_so n k = record {
-  alloc = n.alloc;
-  log = n.log;
-  seats = n.seats;
-  program = n.program;
-  oracles = tt;
-  draws = n.draws;
-  halted = n.halted;
-  covers = k;
-}
-
-pub rested_is : {D O H : Type 0} {h : naming.Ghosts H} (n : FarmNode D O H h) (k : Covers n) → rested_so n k ≡ rested n
-rested_is n k =
-    ap (λ (x : Covers n). rested_so n x)
-    (Coded-set coded_ℕ (length n.seats.items) (length (arc_value n.program).functions) k n.covers)
 
 -- beside one another, as they are seen
 zip_mapped : {A B : Type 0} (f : A → B) (R : A → A → Type 0) (S : B → B → Type 0) → ((x y : A) → R x y → S (f x) (f y))

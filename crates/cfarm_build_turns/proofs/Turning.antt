@@ -18,11 +18,11 @@ use Rattle.farm_nodes_turn_node.specs.Held.{fault_in}
 use Rattle.farm_nodes_turn_offer.specs.declared.halt.Fault.{Fault}
 use Rattle.farm_nodes_turn_node.specs.Fours.{fours_of}
 use Rattle.paxos_core_world.specs.Quorum.{Sizes}
-use Rattle.cfarm_build_result.specs.Source.{Source}
-use Rattle.cfarm_build_result.specs.Learned.{learned_by}
-use Rattle.cfarm_build_result.proofs.Alike.{keeps_none, keeps_through}
-use Rattle.cfarm_build_result.proofs.Going.{go_nowhere, go_through}
-use Rattle.cfarm_build_result.proofs.Zips.{as_long, kept, through, written, zipped}
+use Rattle.cfarm_build_meeting.specs.Source.{Source}
+use Rattle.cfarm_build_meeting.specs.Learned.{learned_by}
+use Rattle.cfarm_build_meeting.proofs.Alike.{keeps_none, keeps_through}
+use Rattle.cfarm_build_meeting.proofs.Going.{go_nowhere, go_through}
+use Rattle.cfarm_build_meeting.proofs.Zips.{as_long, kept, through, written, zipped}
 use Rattle.cfarm_build_faults.proofs.Turning.{came_back_through}
 use Rattle.cfarm_build_faults.specs.Nodes.{NodeCameBack}
 use Rattle.cfarm_build_faults.specs.Stopped.{IsStoppedFor}

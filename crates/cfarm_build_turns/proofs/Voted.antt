@@ -20,7 +20,7 @@ use Rattle.farm_nodes_turn_node.specs.NumberedSeat.{NumberedSeat}
 use Rattle.farm_nodes_turn_node.specs.Numbers.{function_of, pass_of}
 use Rattle.farm_nodes_turn_node.specs.SeatState.{seen_world}
 use Rattle.farm_nodes_turn_node.specs.declared.farm_node.FarmNode.{FarmNode}
-use Rattle.cfarm_build_result.specs.Source.{Source}
+use Rattle.cfarm_build_meeting.specs.Source.{Source}
 use Rattle.cfarm_build_turns.specs.Nodes.{AllHold}
 use Rattle.cfarm_build_turns.specs.Voted.{AreVotedFor}
 

@@ -12,11 +12,11 @@ use Rattle.farm_nodes_turn_node.specs.Fours.{fours_of}
 use Rattle.farm_nodes_turn_node.specs.Asked.{MayBeAsked}
 use Rattle.farm_nodes_turn_node.specs.declared.farm_node.FarmNode.{FarmNode}
 use Rattle.farm_nodes_turn_node.specs.Held.{fault_in}
-use Rattle.cfarm_build_result.specs.Source.{Source}
+use Rattle.cfarm_build_meeting.specs.Source.{Source}
 use Rattle.paxos_core_world.specs.Quorum.{Sizes}
-use Rattle.cfarm_build_result.specs.Alike.{KeepsLearned}
-use Rattle.cfarm_build_result.specs.Going.{SeatsGoOn}
-use Rattle.cfarm_build_result.specs.Learned.{learned_by}
+use Rattle.cfarm_build_meeting.specs.Alike.{KeepsLearned}
+use Rattle.cfarm_build_meeting.specs.Going.{SeatsGoOn}
+use Rattle.cfarm_build_meeting.specs.Learned.{learned_by}
 use Rattle.cfarm_build_faults.specs.Nodes.{NodeCameBack}
 use Rattle.cfarm_build_faults.specs.Stopped.{IsStoppedFor}
 use Rattle.cfarm_build_faults.specs.Words.{generators}

@@ -1,5 +1,5 @@
 -- Nodes at rest: what is left of them without their optimisers.
-use Rattle.std.specs.Prelude.{⊤}
+use Rattle.std.specs.Prelude.{⊤, List, map}
 use Rattle.rooms_hall.specs.declared.hall.Naming as naming
 use Rattle.farm_nodes_turn_node.specs.declared.farm_node.FarmNode.{FarmNode}
 
@@ -19,3 +19,7 @@ rested n = record {
   halted = n.halted;
   covers = n.covers;
 }
+
+-- the disks of nodes, in their order, each that of its journal
+abbrev pub disks_in : {D O H : Type 0} {h : naming.Ghosts H} → List (FarmNode D O H h) → List D
+disks_in nodes = map (λ n. n.log.disk) nodes

@@ -8,8 +8,8 @@ mod met;
 mod resting;
 mod running;
 
-pub use cfarm_build_result::Built;
+pub use cfarm_build_meeting::Built;
 pub use farm_nodes_turn_node::FarmNode;
 pub use met::met_all;
-pub use resting::all_at_rest;
+pub use resting::disks_back;
 pub use running::run_rounds;

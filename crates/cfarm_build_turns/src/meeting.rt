@@ -3,8 +3,8 @@
 ghost use Rattle.std.specs.Prelude.{◌≡◌, ◌<◌, ◌+◌, IsTrue, None, length};
 ghost use Rattle.std.specs.Arc.{arc_value};
 ghost use Rattle.std.specs.List.{AllByRecursion, AllZip};
-ghost use Rattle.cfarm_build_result.specs.Alike.{HaveCounted};
-ghost use Rattle.cfarm_build_result.specs.Neighbours.{EachTwo};
+ghost use Rattle.cfarm_build_meeting.specs.Alike.{HaveCounted};
+ghost use Rattle.cfarm_build_meeting.specs.Neighbours.{EachTwo};
 ghost use Rattle.cfarm_build_meeting.specs.Counted.{AreCountedAt, AreMissed};
 ghost use Rattle.cfarm_build_meeting.specs.Twice.{MeetAt};
 ghost use Rattle.cfarm_build_turns.specs.Nodes.{HasFewFunctions, NodeStays, NodesMetTwice};

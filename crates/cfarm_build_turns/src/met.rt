@@ -3,8 +3,8 @@
 ghost use Rattle.std.specs.Prelude.{◌≡◌, None, OnOk, IfOk, IfErr};
 ghost use Rattle.std.specs.Arc.{arc_value};
 ghost use Rattle.std.specs.List.{AllByRecursion, AllZip};
-ghost use Rattle.cfarm_build_result.specs.Alike.{HaveCounted};
-ghost use Rattle.cfarm_build_result.specs.Neighbours.{EachTwo};
+ghost use Rattle.cfarm_build_meeting.specs.Alike.{HaveCounted};
+ghost use Rattle.cfarm_build_meeting.specs.Neighbours.{EachTwo};
 ghost use Rattle.farm_nodes_threads_teams.specs.Back.{nodes_of};
 ghost use Rattle.cfarm_build_turns.specs.Nodes.{HasFewFunctions, NodeStays, NodesMetTwice, failed_of};
 ghost use Rattle.cfarm_build_turns.specs.Unmet.{IsUnmet};

@@ -9,7 +9,7 @@ ghost use Rattle.cfarm_build_turns.specs.NotRun.{IsNotRun};
 
 use crate::learning::{have_learned_all, learned_rooms};
 use cfarm_build_faults::{BuildError, run_threads};
-use cfarm_build_result::linked_functions;
+use cfarm_build_meeting::linked_functions;
 use cfarm_options::Meter;
 use durable_model::Disk;
 use farm_nodes_threads_teams::RunError;

@@ -3,7 +3,8 @@
 ghost use Rattle.std.specs.Prelude.{◌≡◌, ℕ, Bool, List, Option, None, Result, IfOk};
 ghost use Rattle.cfarm_files.specs.declared.fault.FileFault.{FileFault};
 ghost use Rattle.cfarm_files.specs.Reading.{IsFileRead, IsFileReadIfThere, IsKnownSo};
-ghost use Rattle.cfarm_files.specs.Placing.{Placed, GivesNoMore, Makes, PlacesWhole};
+ghost use Rattle.cfarm_files.specs.Placing.{Placed, GivesNoMore, KeepsFolder, Makes, PlacesWhole};
+ghost use Rattle.cfarm_files.specs.Using.{DiskUse, Closes, Opens, UsesNone};
 ghost use Rattle.cfarm_files.specs.Locking.{CoversFolder, lock_path};
 
 use crate::fault::{DiskFault, FileFault};
@@ -47,6 +48,9 @@ pub trait Files {
     /// What was made or put so far, in order, where that is known.
     ghost placed: { Self → Option (List Placed) } = { λ _. None };
 
+    /// What was done with disks so far, in order, where that is known.
+    ghost used: { Self → Option (List (DiskUse Self.Disk)) } = { λ _. None };
+
     /// The bytes of the file of this path.
     fn read(&self, path: &str) -> Result<Vec<u8>, FileFault>
         ensures { IsFileRead (known self.now path.now) result };
@@ -77,10 +81,11 @@ pub trait Files {
         requires path { path.now ≡ lock_path folder.now }
         ensures covers { IfOk result (λ lock. CoversFolder (covers lock) folder.now) }
         ensures made { Makes (placed self.old) (placed self.new) (λ made. made ≡ path.now) }
+        ensures unused { UsesNone (used self.old) (used self.new) }
         ensures others { GivesNoMore (may_give self.old) (may_give self.new) };
 
     /// The disks over these two files, first the old one: where that is not there it is empty, and it is never made. The new
-    /// one is made, empty, where there is none. No folder is made. The folder's lock is held.
+    /// one is made, empty, where there is none. No folder is made. The folder's lock is held. What is opened is to be closed.
     fn disk(
         &mut self,
         lock: &Self::Lock,
@@ -91,6 +96,16 @@ pub trait Files {
         requires old_locked { covers lock.now old_path.now }
         ensures given { IfOk result (may_give self.old path.now old_path.now) }
         ensures made { Makes (placed self.old) (placed self.new) (λ made. made ≡ path.now) }
+        ensures opens { Opens (used self.old) (used self.new) path.now old_path.now result }
+        ensures others { GivesNoMore (may_give self.old) (may_give self.new) };
+
+    /// Takes back the disks that were given for these two files. Nothing is written to them: what stands there stays. The folder's
+    /// lock is held still.
+    fn close(&mut self, lock: &Self::Lock, path: &str, old_path: &str, disk: Self::Disk)
+        requires locked { covers lock.now path.now }
+        requires old_locked { covers lock.now old_path.now }
+        ensures closes { Closes (used self.old) (used self.new) path.now old_path.now disk }
+        ensures kept { KeepsFolder (placed self.old) (placed self.new) }
         ensures others { GivesNoMore (may_give self.old) (may_give self.new) };
 
     /// Whether the old file of a pair that was given holds a journal that counts. Nothing that is built depends on it.
@@ -100,9 +115,11 @@ pub trait Files {
     /// does a refusal. It is refused where something else than a plain file is there. The folder's lock is held.
     fn put(&mut self, lock: &Self::Lock, path: &str, bytes: &[u8]) -> Result<(), FileFault>
         requires { covers lock.now path.now }
-        ensures { PlacesWhole (placed self.old) (placed self.new) path.now bytes.now result };
+        ensures whole { PlacesWhole (placed self.old) (placed self.new) path.now bytes.now result }
+        ensures unused { UsesNone (used self.old) (used self.new) };
 
     /// The same for a path that no lock has to cover: a file of the caller's own choice. Who puts there last is seen.
     fn put_at(&mut self, path: &str, bytes: &[u8]) -> Result<(), FileFault>
-        ensures { PlacesWhole (placed self.old) (placed self.new) path.now bytes.now result };
+        ensures whole { PlacesWhole (placed self.old) (placed self.new) path.now bytes.now result }
+        ensures unused { UsesNone (used self.old) (used self.new) };
 }

@@ -94,6 +94,10 @@ impl Files for HostFiles<'_> {
         }
     }
 
+    fn close(&mut self, _lock: &File, _path: &str, _old_path: &str, disk: FilePair) {
+        drop(disk);
+    }
+
     fn counts_old(&self, disk: &FilePair) -> bool {
         disk.old_counts()
     }

@@ -13,6 +13,7 @@ use Rattle.cfarm_build_faults.specs.declared.error.BuildError.{BuildError}
 use Rattle.cfarm_build_faults.specs.declared.error.BuildError.TheVariants as build
 use Rattle.cfarm_files.specs.Locking.{CoversFolder, lock_path}
 use Rattle.cfarm_files.specs.Placing.{KeepsFolder, Makes}
+use Rattle.cfarm_files.specs.Using.{UsesNone}
 use Rattle.cfarm_files.specs.declared.fault.FileFault.{FileFault}
 use Rattle.cfarm_files.specs.declared.files.Files as filing
 use Rattle.cfarm_files.specs.declared.fault.FileFault.TheVariants as file
@@ -59,10 +60,11 @@ module _ {F D L : Type 0} (over : filing.Ghosts F D L) (folder : List ℕ) (q : 
       ((lock : L) × CoversFolder (over.covers lock) folder × OfFiles lock source answer before after)
       ⊎ ((fault : FileFault) × (after ≡ before) × (answer ≡ unread (lock_path folder) fault))
 
--- Over files as they were given and as they are left. A text that is refused is told as `build` tells it: nothing is made, and nothing
--- printed. Else the lock's file alone may be made, and nothing is put.
+-- Over files as they were given and as they are left. No disk is opened. A text that is refused is told as `build` tells it: nothing is made,
+-- and nothing printed. Else the lock's file alone may be made, and nothing is put.
 abbrev pub Looked : {F D L : Type 0} → filing.Ghosts F D L → (given left : F) → (folder : List ℕ) → Sizes → (text : List ℕ) → Coming
 Looked over given left folder q text answer before after =
-    ((fault : SourceFault) × IsUnprepared text fault × KeepsFolder (over.placed given) (over.placed left) × (after ≡ before) × (answer ≡ build_fault (build.Source fault)))
+    UsesNone (over.used given) (over.used left)
+    × (((fault : SourceFault) × IsUnprepared text fault × KeepsFolder (over.placed given) (over.placed left) × (after ≡ before) × (answer ≡ build_fault (build.Source fault)))
     ⊎ ((source : Source) × IsSourceOf text source × Makes (over.placed given) (over.placed left) (λ path. path ≡ lock_path folder)
-    × OfLocked over folder q source answer before after)
+    × OfLocked over folder q source answer before after))

@@ -6,6 +6,7 @@ ghost use Rattle.cfarm_fsck_files.specs.Looking.{Found, OfFiles, OfLocked, build
 ghost use Rattle.cfarm_fsck_files.specs.Saying.{LookedOver, Tells};
 ghost use Rattle.cfarm_files.specs.Locking.{CoversFolder, lock_path};
 ghost use Rattle.cfarm_files.specs.Placing.{Makes};
+ghost use Rattle.cfarm_files.specs.Using.{UsesNone};
 ghost use Rattle.cfarm_program_status.specs.Telling.{IsToldAs};
 
 use crate::reading::read_files;
@@ -120,6 +121,7 @@ fn tell_locked<H: Naming, R: Threads + Wait + Sync, F: Files, W: Write, E: Error
     requires functions { length (arc_value source.now.translated).functions ≤ 64 }
     ensures does { Tells W.contents E.contents (OfLocked F.Files folder.now quorums source.now) result out err }
     ensures made { Makes (F.placed files.old) (F.placed files.new) (λ path. path ≡ lock_path folder.now) }
+    ensures unused { UsesNone (F.used files.old) (F.used files.new) }
     ensures table { result ≤ 7 }
 {
     let Ok(path) = lock_path(alloc, folder) else {

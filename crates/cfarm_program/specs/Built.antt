@@ -1,13 +1,13 @@
 -- What `build` comes to: what it put and wrote, and what it answers.
 use Rattle.std.specs.Prelude.{◌≡◌, ◌⊎◌, List, Option, ℕ}
 use Rattle.cfarm_files.specs.Placing.{KeepsFolder}
+use Rattle.cfarm_files.specs.Using.{UsesNone}
 use Rattle.cfarm_files.specs.declared.fault.FileFault.TheVariants.{Refused}
 use Rattle.cfarm_build.specs.Answers as building
 use Rattle.cfarm_build.specs.BuildingError.{BuildingError}
 use Rattle.cfarm_build.specs.Changed.{Changed}
 use Rattle.cfarm_build.specs.Done.{HasBuilt, IsNotBuilt}
 use Rattle.cfarm_build.specs.declared.farm.Farm as farms
-use Rattle.cfarm_build.specs.declared.given_back.GivenBack.{GivenBack}
 use Rattle.cfarm_options.specs.declared.options.BuildOptions.{BuildOptions}
 use Rattle.cfarm_own_files.specs.Barred.{AreAllFree, IsBarred}
 use Rattle.cfarm_program_status.specs.Reading.{Coming, unread}
@@ -18,25 +18,24 @@ building_fault fault = told (building.status_of fault) (building.building_line f
 
 -- Over this farm, with the files as they were found and as they are left.
 module _ {F H D L : Type 0} (farm : farms.Ghosts F H D L) (files : Changed F) (options : BuildOptions) where
-  -- What a farm links of the text is put in its file and the report printed, or why not is told. The nodes end with the program, so here there are
-  -- some whose disks hold their journals; which they are is said of the command.
+  -- What a farm links of the text is put in its file and the report printed, or why not is told. Each node's disk was opened once, and closed
+  -- with its journal; where no nodes came to be each pair that was opened was closed as it was then.
   abbrev pub BuildsApart : (bytes : List ℕ) → Coming
   BuildsApart bytes answer before after =
-      ((back : GivenBack D H farm.rooms) × HasBuilt farm.disks farm.pairs (farm.files.may_give files.entry.now) options bytes
-      (farm.files.placed files.entry.now) (farm.files.placed files.exit.now) back before after × (answer ≡ quiet))
-      ⊎ ((fault : BuildingError) × (back : GivenBack D H farm.rooms) × IsNotBuilt farm.disks farm.pairs (farm.files.may_give files.entry.now) options bytes
-      (farm.files.placed files.entry.now) (farm.files.placed files.exit.now) back fault before after × (answer ≡ building_fault fault))
+      (HasBuilt farm options bytes files.entry.now files.exit.now before after × (answer ≡ quiet))
+      ⊎ ((fault : BuildingError) × IsNotBuilt farm options bytes files.entry.now files.exit.now fault before after × (answer ≡ building_fault fault))
 
-  -- nothing is made, put or printed
+  -- nothing is made, put or printed, and no disk opened
   abbrev pub LeavesAll : (before after : Option (List ℕ)) → Type 0
-  LeavesAll before after = KeepsFolder (farm.files.placed files.entry.now) (farm.files.placed files.exit.now) × (after ≡ before)
+  LeavesAll before after = KeepsFolder (farm.files.placed files.entry.now) (farm.files.placed files.exit.now)
+      × UsesNone (farm.files.used files.entry.now) (farm.files.used files.exit.now) × (after ≡ before)
 
   -- a path that the build is given may not be used, which is told of it; or there was no memory to find out
   abbrev pub TellsBarred : (path : List ℕ) → Answer → Type 0
   TellsBarred path answer =
       ((at : List ℕ) × IsBarred farm.files files.entry.now options path at × (answer ≡ unread at Refused)) ⊎ (answer ≡ no_memory)
 
-  -- `build`: one of its paths may not be used, and then nothing is made, put or printed; else the build is done
+  -- `build`: one of its paths may not be used, and then nothing is made, put, printed or opened; else the build is done
   abbrev pub Builds : (path bytes : List ℕ) → Coming
   Builds path bytes answer before after =
       (TellsBarred path answer × LeavesAll before after)

@@ -5,6 +5,7 @@ use Rattle.cfarm_output.specs.declared.errors.ErrorLines as lines
 use Rattle.cfarm_output.specs.declared.paced.Paced.{Paced}
 use Rattle.cfarm_files.specs.Placing.{KeepsFolder}
 use Rattle.cfarm_files.specs.Reading.{IsKnownAs}
+use Rattle.cfarm_files.specs.Using.{UsesNone}
 use Rattle.cfarm_files.specs.declared.fault.FileFault.{FileFault}
 use Rattle.cfarm_files.specs.declared.files.Files as filing
 use Rattle.cfarm_build.specs.Changed.{Changed}
@@ -46,12 +47,13 @@ Looks over output errors options bytes status files out err = Tells output.conte
 
 -- What is said of a run: over this farm, with the files as they were found and as they are left.
 module _ {F H D L : Type 0} (farm : farms.Ghosts F H D L) (files : Changed F) where
-  -- no file was put
+  -- no file was put, and no disk opened
   abbrev pub KeepsFiles : Type 0
   KeepsFiles = KeepsFolder (farm.files.placed files.entry.now) (farm.files.placed files.exit.now)
+      × UsesNone (farm.files.used files.entry.now) (farm.files.used files.exit.now)
 
-  -- a task on the bytes of its file, with what it wrote and answers; a build alone puts a file, and `fsck`
-  -- makes that of its folder's lock, under which it reads
+  -- a task on the bytes of its file, with what it wrote and answers; a build alone puts a file and opens disks, each of which it closes, and
+  -- `fsck` makes the file of its folder's lock, under which it reads
   abbrev pub Comes : Task → (path bytes : List ℕ) → Coming
   Comes (Check format) path bytes answer before after = KeepsFiles × Checked format path bytes answer before after
   Comes (Interpret depth) path bytes answer before after = KeepsFiles × Interpreted bytes depth answer before after

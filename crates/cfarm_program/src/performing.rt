@@ -49,8 +49,7 @@ fn build_apart<
     let Some(quorums) = options.quorums() else {
         unreachable!();
     };
-    let (done, _back) = build_text(host, text, options, quorums, files, meter, out);
-    match done {
+    match build_text(host, text, options, quorums, files, meter, out) {
         Ok(()) => 0,
         Err(fault) => {
             let status = fault.status();

@@ -95,8 +95,8 @@ fn tell_refused<T: Wording, W: Write, E: ErrorLines>(
 /// Does what the words of a command line ask for, the first of which is the program's name: says where the quorums of a build need not
 /// meet, and else reads the file, writes the output, tells a line on standard error where there is one, and gives the exit status. The host's
 /// threads are for `settle`, `build`, `verify` and `fsck`, `wording` gives the texts of help and of mistakes, and `meter` shows how far a build
-/// is. A folder's lock is taken once, and held while files of the folder are read or put. `is_seen` says that a user sees standard error,
-/// where a line is then explained; whether one sees the output, the output knows.
+/// is. A folder's lock is taken once, and held while files of the folder are read or put. A build opens the disks of each node once, and closes
+/// them. `is_seen` says that a user sees standard error, where a line is then explained; whether one sees the output, the output knows.
 pub fn run<H, R, F, T, M, W, E>(
     host: &Host<'_, H, R>,
     is_seen: bool,

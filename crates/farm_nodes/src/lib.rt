@@ -18,7 +18,6 @@ pub use farm_nodes_link::{
 };
 pub use farm_nodes_meet_nodes::{are_strangers, meet_nodes};
 pub use farm_nodes_open_nodes::{OpenFault, RoomFault};
-pub use farm_nodes_restart_disks::{RestartFault, own_disk, restart};
 pub use farm_nodes_source::{Source, SourceFault, prepare};
 pub use farm_nodes_threads::{NumberedSeat, Oracles, run_threads};
 pub use farm_nodes_threads_teams::RunError;

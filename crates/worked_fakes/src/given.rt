@@ -17,12 +17,15 @@ pub struct Put {
     pub bytes: Vec<u8>,
 }
 
-/// The one file that is there, and what was put. Journals are empty, unless their folder says otherwise.
+/// The one file that is there, what was put, and the files over which disks were opened and closed. Journals are empty, unless their folder says
+/// otherwise.
 #[derive(Drop)]
 pub struct Given<'a> {
     pub alloc: Global,
     pub text: &'a [u8],
     pub put: Vec<Put>,
+    opened: Vec<String>,
+    closed: Vec<String>,
 }
 
 impl<'a> Given<'a> {
@@ -44,8 +47,34 @@ impl<'a> Given<'a> {
             alloc,
             text,
             put: Vec::new(alloc),
+            opened: Vec::new(alloc),
+            closed: Vec::new(alloc),
         }
     }
+
+    /// Whether all disks that were opened were closed, in the same order, and none was opened twice.
+    pub fn are_disks_closed(&self) -> bool {
+        self.opened == self.closed && !has_twice(&self.opened)
+    }
+}
+
+/// How often a path stands there.
+fn times(paths: &[String], path: &str) -> usize {
+    let mut times: usize = 0;
+    for other in paths {
+        times = times.saturating_add(usize::from(other.as_str() == path));
+    }
+    times
+}
+
+/// Whether a path stands there twice.
+fn has_twice(paths: &[String]) -> bool {
+    for path in paths {
+        if times(paths, path.as_str()) > 1 {
+            return true;
+        }
+    }
+    false
 }
 
 /// Disks that hold these bytes, synced; they can note so many calls, and fail at this one.
@@ -210,7 +239,23 @@ impl Files for Given<'_> {
 
     fn disk(&mut self, _lock: &Held, path: &str, _old_path: &str) -> Result<MemoryPair, DiskFault> {
         let (folder, name) = path.rsplit_once('/').unwrap_or(("", path));
-        disk_in(self.alloc, folder, name)
+        let Ok(noted) = path.to_string(self.alloc) else {
+            return Err(DiskFault::NoMemory);
+        };
+        match disk_in(self.alloc, folder, name) {
+            Ok(disk) => match self.opened.push(noted) {
+                Ok(()) => Ok(disk),
+                Err(_) => Err(DiskFault::NoMemory),
+            },
+            Err(fault) => Err(fault),
+        }
+    }
+
+    fn close(&mut self, _lock: &Held, path: &str, _old_path: &str, disk: MemoryPair) {
+        drop(disk);
+        if let Ok(noted) = path.to_string(self.alloc) {
+            let _ = self.closed.push(noted);
+        }
     }
 
     fn counts_old(&self, disk: &MemoryPair) -> bool {

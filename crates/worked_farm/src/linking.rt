@@ -124,8 +124,7 @@ pub(crate) fn all_alike<H: Naming>(alloc: Global, source: &Source, nodes: &[Node
     true
 }
 
-/// The bytes of the program that all nodes link, each of which meets the next; none where two do not meet in all functions, or link
-/// other programs.
+/// The bytes of the program that all nodes link, each of which meets the next; none where two do not meet in all functions, or link other programs.
 pub(crate) fn all_linked<H: Naming>(
     alloc: Global,
     source: &Source,

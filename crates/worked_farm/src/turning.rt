@@ -10,7 +10,8 @@ ghost use Rattle.worked_farm.specs.Nodes.{HasThird, IsThirdNode};
 use acceptor_log_form::LogError;
 use durable_model::Disk;
 use durable_pair::Pair;
-use farm_nodes::{Farm, FarmError, FarmNode, Oracles, RestartFault, Turn, restart, run_threads};
+use farm_nodes::{Farm, FarmError, FarmNode, Oracles, Turn, run_threads};
+use farm_nodes_restart_disks::{RestartFault, restart};
 use farm_nodes_turn_offer::Fault;
 use parallel_validate::OpenGate;
 use rooms_hall::{Hall, Naming};
@@ -49,8 +50,7 @@ pub(crate) fn open_three<P: Pair + Drop, O: Drop, H: Naming, R: Threads + Wait +
     }
 }
 
-/// The nodes when they have learned in all their rooms, or have failed, or each has taken so many turns; none where memory or a
-/// thread is refused.
+/// The nodes when they have learned in all their rooms, or have failed, or each has taken so many turns; none where memory or a thread is refused.
 pub(crate) fn turned<
     D: Disk + Drop + Send,
     O: Oracles + Drop + Send,

@@ -1,7 +1,7 @@
 //! What is told of farms, in words.
 
 use acceptor_log_form::LogError;
-use cfarm_build::BuildError;
+use cfarm_build_faults::BuildError;
 use durable_pair_memory::MemoryPair;
 use paxos_core_world::quorum::Quorums;
 use rooms_hall::{Hall, Naming};

@@ -87,6 +87,9 @@ pub fn bundled<H: Naming + Send, R: Threads + Wait + Sync>(
         Held::ample(alloc),
         Held::ample(alloc),
     );
+    if !files.are_disks_closed() {
+        return None;
+    }
     if files.put.len() > 1 {
         return told_both(here, &mut files, &built);
     }

@@ -167,6 +167,9 @@ pub fn answer<H: Naming + Send, R: Threads + Wait + Sync>(
     let alloc = here.alloc;
     let mut files = Given::of(alloc, text);
     let ran = run_over(here, words, &mut files, out, err);
+    if !files.are_disks_closed() {
+        return None;
+    }
     let Some(put) = files.put.first() else {
         return told(alloc, &ran, &[]);
     };

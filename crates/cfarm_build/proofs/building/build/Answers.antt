@@ -7,7 +7,7 @@ use Rattle.cfarm_build_turns.proofs.Zips.{all_of, as_long}
 use Rattle.cfarm_build_turns.specs.CameBackNodes.{NodeCameBack}
 use Rattle.cfarm_build_turns.specs.Nodes.{NodeStays}
 use Rattle.cfarm_build.specs.Gone.{HaveGone}
-use Rattle.cfarm_build.proofs.Made.{built_so, opened_so, unbuilt_so}
+use Rattle.cfarm_build.proofs.Made.{as_many, built_so, opened_so, unbuilt_so}
 use Rattle.cfarm_build.proofs.building.build.Goals as goal
 
 pub returns-in_default-clause-refused : goal.returns-in_default-clause-refused
@@ -24,9 +24,9 @@ pub gone-made-requires-clause-program : goal.gone-made-requires-clause-program
 gone-made-requires-clause-program g c κs within =
     all_of (λ n. arc_value n.program ≡ arc_value c.in-Ok-over.farm.source.translated) c.in-Ok-over.farm.nodes.items c.in-Ok-over.ensures.program
 
--- there is room for the nodes at rest
-pub all_at_rest-requires-clause-capacity : goal.all_at_rest-requires-clause-capacity
-all_at_rest-requires-clause-capacity g c =
+-- there is room for the disks
+pub disks_back-requires-clause-capacity : goal.disks_back-requires-clause-capacity
+disks_back-requires-clause-capacity g c =
     let gone = c.gone-made.ensures.gone in
     let nodes = c.in-Ok-over.farm.nodes.items in
     omega (
@@ -48,7 +48,7 @@ returns-clause-built g c =
     let farm = c.in-Ok-over.farm in
     built_so g.D.Disk g.D.Pair c.args.quorums c.args.seed c.args.turns c.args.source c.args.disks.items farm.nodes.items _
     (opened_so g.D.Disk g.D.Pair c.args.quorums c.args.seed c.args.source farm.source c.args.disks.items farm.nodes.items on.source on.journals on.rooms on.draws on.program on.going)
-    c.all_at_rest.result c.all_at_rest.ensures c.gone-made.result.0
+    c.disks_back.result.items c.disks_back.ensures c.gone-made.result.0
     (subst (λ (s : Source). HaveGone g.D.Disk c.args.turns s farm.nodes.items c.gone-made.result.1.items c.gone-made.result.0) on.source c.gone-made.ensures.gone)
 
 pub returns-clause-refused : goal.returns-clause-refused
@@ -57,5 +57,18 @@ returns-clause-refused g c =
     let farm = c.in-Ok-over.farm in
     unbuilt_so g.D.Disk g.D.Pair c.args.quorums c.args.seed c.args.turns c.args.source c.args.disks.items farm.nodes.items _
     (opened_so g.D.Disk g.D.Pair c.args.quorums c.args.seed c.args.source farm.source c.args.disks.items farm.nodes.items on.source on.journals on.rooms on.draws on.program on.going)
-    c.all_at_rest.result c.all_at_rest.ensures c.gone-made.result.0
+    c.disks_back.result.items c.disks_back.ensures c.gone-made.result.0
+    (subst (λ (s : Source). HaveGone g.D.Disk c.args.turns s farm.nodes.items c.gone-made.result.1.items c.gone-made.result.0) on.source c.gone-made.ensures.gone)
+
+-- as many come back as were given
+pub returns-in-Err-clause-back : goal.returns-in-Err-clause-back
+returns-in-Err-clause-back g c = c.in-Err.ensures.refused.returned.count
+
+pub returns-clause-back : goal.returns-clause-back
+returns-clause-back g c =
+    let on = c.in-Ok-over.ensures in
+    let farm = c.in-Ok-over.farm in
+    as_many g.D.Disk g.D.Pair c.args.quorums c.args.seed c.args.turns c.args.source c.args.disks.items farm.nodes.items _
+    (opened_so g.D.Disk g.D.Pair c.args.quorums c.args.seed c.args.source farm.source c.args.disks.items farm.nodes.items on.source on.journals on.rooms on.draws on.program on.going)
+    c.disks_back.result.items c.disks_back.ensures c.gone-made.result.0
     (subst (λ (s : Source). HaveGone g.D.Disk c.args.turns s farm.nodes.items c.gone-made.result.1.items c.gone-made.result.0) on.source c.gone-made.ensures.gone)

@@ -9,12 +9,10 @@ returns-in-Err-clause-refused g c = inl ((rw c.in-Err.is at c.compiled-made.ensu
 
 pub returns-clause-built : goal.returns-clause-built
 returns-clause-built g c =
-    has_built g.F.Disk.Disk g.F.Disk.Pair (g.F.Files.may_give c.args.files.now) c.args.options c.args.text.now
-    (g.F.Files.placed c.args.files.now) (g.F.Files.placed c.compiled-made.new.files) _ c.compiled-made.result.1 _ _ c.in-Ok.made.0 (rw c.in-Ok.is at c.compiled-made.ensures.built)
-    c.put_built-done.result c.put_built-done.ensures.put
+    has_built _ c.args.options c.args.text.now c.args.files.now c.compiled-made.new.files c.put_built.new.files _ _ c.in-Ok.made.0
+    (rw c.in-Ok.is at c.compiled-made.ensures.built) c.put_built.ensures.unused c.put_built.result c.put_built.ensures.put
 
 pub returns-clause-refused : goal.returns-clause-refused
 returns-clause-refused g c =
-    has_not_built g.F.Disk.Disk g.F.Disk.Pair (g.F.Files.may_give c.args.files.now) c.args.options c.args.text.now
-    (g.F.Files.placed c.args.files.now) (g.F.Files.placed c.compiled-made.new.files) _ c.compiled-made.result.1 _ _ c.in-Ok.made.0 (rw c.in-Ok.is at c.compiled-made.ensures.built)
-    c.put_built-done.result c.put_built-done.ensures.refused
+    has_not_built _ c.args.options c.args.text.now c.args.files.now c.compiled-made.new.files c.put_built.new.files _ _ c.in-Ok.made.0
+    (rw c.in-Ok.is at c.compiled-made.ensures.built) c.put_built.ensures.unused c.put_built.result c.put_built.ensures.refused

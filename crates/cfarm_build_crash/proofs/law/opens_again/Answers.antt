@@ -4,5 +4,5 @@ use Rattle.cfarm_build_crash.proofs.law.opens_again.Goals as goal
 
 pub returns : goal.returns
 returns g c =
-    build_opens_again g.D.Disk g.D.Pair c.args.quorums c.nodes-count.ensures.sizes g.met.D.Pair.honest_spent g.met.D.Pair.new_is_left c.args.source.now c.args.given.now
-    c.args.nodes.now c.args.built.now c.args.left.now
+    build_opens_again g.D.Disk g.D.Pair g.H.Naming c.args.quorums c.nodes-count.ensures.sizes g.met.D.Pair.honest_spent g.met.D.Pair.new_is_left c.args.source.now c.args.given.now
+    c.args.back.now c.args.built.now c.args.left.now

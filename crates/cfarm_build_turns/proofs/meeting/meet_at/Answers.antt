@@ -1,13 +1,13 @@
 -- Two of the nodes change, one on each side of the cut.
 use Rattle.std.proofs.Common.{◌≡◌, ◌<◌, ◌++◌, suc, None, length, set, sym, ap, subst, ◌∙◌, arith}
 use Rattle.std.specs.List.{AllByRecursion, AllZip}
-use Rattle.cfarm_build_result.proofs.Going.{both_on}
-use Rattle.cfarm_build_result.proofs.Kept.{first_keeps, second_keeps}
+use Rattle.cfarm_build_meeting.proofs.Going.{both_on}
+use Rattle.cfarm_build_meeting.proofs.Kept.{first_keeps, second_keeps}
 use Rattle.cfarm_build_meeting.specs.Twice.{MeetAt}
 use Rattle.cfarm_build_meeting.proofs.Counting.{all_counted, at_place, not_counted}
 use Rattle.cfarm_build_meeting.proofs.Cuts.{cut_first, cut_others, cut_second}
 use Rattle.cfarm_build_meeting.proofs.Meets.{meets}
-use Rattle.cfarm_build_result.proofs.Zips.{all_back, all_front, all_get, append, one_set, set_first, set_second}
+use Rattle.cfarm_build_meeting.proofs.Zips.{all_back, all_front, all_get, append, one_set, set_first, set_second}
 use Rattle.cfarm_build_turns.specs.Nodes.{NodeStays}
 use Rattle.cfarm_build_turns.proofs.Turning.{meets_none}
 use Rattle.cfarm_build_turns.proofs.meeting.meet_at.Goals as goal
@@ -107,10 +107,10 @@ returns-clause-met g c =
     let at = c.args.number in
     let front = c.split_at_mut-front.result.0.now in
     let back = c.split_at_mut-front.result.1.now in
-    let first = c.meet-count.new.first in
-    let second = c.meet-count.new.second in
+    let first = c.meet_nodes-count.new.first in
+    let second = c.meet_nodes-count.new.second in
     let parts = c.split_at_mut-front.ensures in
-    let told = c.meet-count.ensures in
+    let told = c.meet_nodes-count.ensures in
     let in_front : at < length front = omega (arith, parts.front_len) in
     let in_back : 0 < length back = omega (arith, parts.back_len, c.requires.next) in
     let going = subst (λ l. AllByRecursion (λ n. n.halted ≡ None) l) parts.value c.requires.going in
@@ -120,7 +120,7 @@ returns-clause-met g c =
     let cut : length front ≡ suc at = omega (arith, parts.front_len) in
     let whole = ap (λ l. length l) parts.value in
     subst (λ l. MeetAt (λ n. n.seats.items) l (set front at first ++ set back 0 second) at) (sym parts.value)
-    (meets (λ n. n.seats.items) (front ++ back) (set front at first ++ set back 0 second) at _ _ first second c.meet-count.result met
+    (meets (λ n. n.seats.items) (front ++ back) (set front at first ++ set back 0 second) at _ _ first second c.meet_nodes-count.result met
     (omega (arith, c.requires.next, whole)) (cut_first front back at c.index-front-number.result cut) (cut_second front back at c.index-back-0.result cut in_back)
     (set_first front (set back 0 second) at first cut) (set_second front back at first second cut in_back)
     (cut_others front back at first second cut))

@@ -2,7 +2,7 @@
 use Rattle.std.proofs.Common.{refl, subst, sym, ◌∙◌, true≢false, arith}
 use Rattle.cfarm_build_meeting.proofs.Counting.{all_there, none_back, one_back}
 use Rattle.cfarm_build_meeting.proofs.Twice.{back_begins, back_on, forth_begins, forth_on, met_twice}
-use Rattle.cfarm_build_result.proofs.Zips.{all_same, as_long}
+use Rattle.cfarm_build_meeting.proofs.Zips.{all_same, as_long}
 use Rattle.cfarm_build_meeting.specs.Counted.{AreCountedAt}
 use Rattle.cfarm_build_turns.specs.Nodes.{HasFewFunctions, NodeStays}
 use Rattle.cfarm_build_turns.proofs.Turning.{going_still, meets_none, meets_through, stays_through, such_still}

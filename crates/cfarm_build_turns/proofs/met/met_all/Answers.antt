@@ -2,9 +2,9 @@
 use Rattle.std.proofs.Common.{◌≡◌, None, refl, sym, ap, subst, subst₂, ◌∙◌, true≢false}
 use Rattle.std.specs.Arc.{arc_value}
 use Rattle.std.specs.List.{AllByRecursion}
-use Rattle.cfarm_build_result.specs.Alike.{HaveCounted}
-use Rattle.cfarm_build_result.specs.Neighbours.{EachTwo}
-use Rattle.cfarm_build_result.proofs.Zips.{all_same}
+use Rattle.cfarm_build_meeting.specs.Alike.{HaveCounted}
+use Rattle.cfarm_build_meeting.specs.Neighbours.{EachTwo}
+use Rattle.cfarm_build_meeting.proofs.Zips.{all_same}
 use Rattle.cfarm_build_turns.specs.Nodes.{AreMissed, HasFewFunctions, NodeStays, NodesMetTwice, failed_of}
 use Rattle.cfarm_build_turns.proofs.Lowest.{all_going}
 use Rattle.cfarm_build_turns.proofs.Turning.{meets_none, meets_there, new_there}

@@ -8,13 +8,13 @@ use Rattle.cfarm_program_status.proofs.Answering.{among}
 use Rattle.cfarm_program.proofs.performing.build_apart.Goals as goal
 
 pub returns-in-Ok-clause-does : goal.returns-in-Ok-clause-does
-returns-in-Ok-clause-does g c = (quiet, inl (c.build_text-done.result.1, (rw c.in-Ok.is at c.build_text-done.ensures.built), refl), (refl, refl))
+returns-in-Ok-clause-does g c = (quiet, inl (c.in-Ok.ensures.built, refl), (refl, refl))
 
-pub returns-clause-does : goal.returns-clause-does
-returns-clause-does g c =
+pub returns-in-Err-clause-does : goal.returns-in-Err-clause-does
+returns-in-Err-clause-does g c =
     let fault = c.in-Err.fault in (
       building_fault fault,
-      inr (fault, c.build_text-done.result.1, (rw c.in-Err.is at c.build_text-done.ensures.refused), refl),
+      inr (fault, c.in-Err.ensures.refused, refl),
       among c.args.is_seen false _ _ _ (building_line fault) _ _ _ c.status-status.ensures (λ unseen. refl)
           (λ unseen. c.as_str.ensures.value ∙ c.of_build-behind.ensures unseen) (c.tell_among.ensures.told (building_line fault) refl),
     )

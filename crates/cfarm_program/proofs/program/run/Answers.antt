@@ -1,6 +1,6 @@
 -- Why `run` meets its clause `does`.
 use Rattle.std.proofs.Common.{refl, inl, inr}
-use Rattle.cfarm_program.proofs.Placing.{keeps_same}
+use Rattle.cfarm_program.proofs.Placing.{keeps_files}
 use Rattle.cfarm_program.proofs.program.run.Goals as goal
 
 pub returns-in-Ok-Some-clause-does : goal.returns-in-Ok-Some-clause-does
@@ -12,14 +12,14 @@ returns-in-Ok-Some-clause-does g c =
 pub returns-in-Ok-None-clause-does : goal.returns-in-Ok-None-clause-does
 returns-in-Ok-None-clause-does g c =
     let nothing = rw c.in-Ok-None.field-0-is at c.in-Ok-None.ensures.none in
-    (c.offered-choices.result, c.offered-choices.ensures, inr (inr (keeps_same _, nothing refl, refl, refl, refl)))
+    (c.offered-choices.result, c.offered-choices.ensures, inr (inr (keeps_files _ _, nothing refl, refl, refl, refl)))
 
 pub returns-in-Err-clause-does : goal.returns-in-Err-clause-does
 returns-in-Err-clause-does g c = (
   c.offered-choices.result,
   c.offered-choices.ensures,
   inr (inl (record {
-    keeps = keeps_same _;
+    keeps = keeps_files _ _;
     fault = c.in-Err.fault;
     kind = c.in-Err.ensures.right;
     only = c.in-Err.ensures.refused;

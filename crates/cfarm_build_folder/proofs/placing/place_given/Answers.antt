@@ -1,0 +1,6 @@
+-- Why `place_given` meets its clause `unused`.
+use Rattle.cfarm_files.proofs.Uses.{uses_none}
+use Rattle.cfarm_build_folder.proofs.placing.place_given.Goals as goal
+
+pub returns-in_default-clause-unused : goal.returns-in_default-clause-unused
+returns-in_default-clause-unused g c = uses_none (g.F.Files.used c.args.files.now)
