@@ -1,0 +1,5 @@
+pub mod RoomSeat
+pub mod Planned
+pub mod Staged
+pub mod Due
+pub mod Stays
