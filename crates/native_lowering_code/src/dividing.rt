@@ -1,0 +1,172 @@
+//! The blocks of divisions.
+
+ghost use Rattle.std.specs.Prelude.{◌≡◌};
+ghost use Rattle.native_lowering_definition.specs.Operating.{divisor_tested, divisor_tested_signed, divisor, divided_in, divides};
+ghost use Rattle.native_lowering_code.specs.Adding.{Adds};
+ghost use Rattle.native_lowering_code.specs.Dividing.{divided};
+
+use crate::adding::add;
+use crate::registers::register_of;
+use lang_base::NoMemory;
+use x86_syntax::{Condition, Instruction, Operator, Register, Turning};
+
+fn add_tested(out: &mut Vec<Instruction>, b: u8) -> Result<(), NoMemory>
+    ensures { Adds result (divisor_tested b) out.old.items out.new.items }
+{
+    let right = register_of(b);
+    add(
+        out,
+        &[
+            Instruction::CompareWith {
+                left: right,
+                word: 0,
+            },
+            Instruction::StopIf {
+                condition: Condition::Equal,
+            },
+            Instruction::Copy {
+                target: Register::Ecx,
+                source: right,
+            },
+        ],
+    )
+}
+
+fn add_tested_signed(out: &mut Vec<Instruction>, a: u8, b: u8) -> Result<(), NoMemory>
+    ensures { Adds result (divisor_tested_signed a b) out.old.items out.new.items }
+{
+    let (ecx, edx) = (Register::Ecx, Register::Edx);
+    let (left, right) = (register_of(a), register_of(b));
+    let stop = Instruction::StopIf {
+        condition: Condition::Equal,
+    };
+    let divisor = Instruction::Copy {
+        target: ecx,
+        source: right,
+    };
+    add(
+        out,
+        &[
+            Instruction::CompareWith {
+                left: right,
+                word: 0,
+            },
+            stop,
+            Instruction::Copy {
+                target: ecx,
+                source: left,
+            },
+            Instruction::DoWith {
+                op: Operator::Xor,
+                target: ecx,
+                word: 0x8000_0000,
+            },
+            Instruction::Copy {
+                target: edx,
+                source: right,
+            },
+            Instruction::Turn {
+                op: Turning::Not,
+                target: edx,
+            },
+            Instruction::Do {
+                op: Operator::Or,
+                target: ecx,
+                source: edx,
+            },
+            stop,
+            divisor,
+        ],
+    )
+}
+
+/// The divisor goes to ecx; it is set there where it is known, and no division by it fails.
+fn add_divisor(
+    out: &mut Vec<Instruction>,
+    signed: bool,
+    a: u8,
+    b: u8,
+    known: Option<u32>,
+) -> Result<(), NoMemory>
+    ensures { Adds result (divisor signed a b known) out.old.items out.new.items }
+{
+    let target = Register::Ecx;
+    match known {
+        None => {
+            if signed {
+                add_tested_signed(out, a, b)
+            } else {
+                add_tested(out, b)
+            }
+        }
+        Some(word) => {
+            if signed {
+                if word == 0 || word == u32::MAX {
+                    add_tested_signed(out, a, b)
+                } else {
+                    add(out, &[Instruction::Set { target, word }])
+                }
+            } else if word == 0 {
+                add_tested(out, b)
+            } else {
+                add(out, &[Instruction::Set { target, word }])
+            }
+        }
+    }
+}
+
+/// The register of the quotient, or of the rest.
+fn divided_in(quotient: bool) -> Register
+    ensures { result ≡ divided_in quotient }
+{
+    if quotient {
+        Register::Eax
+    } else {
+        Register::Edx
+    }
+}
+
+/// D becomes the quotient of A and ecx, or the rest.
+fn add_divided(
+    out: &mut Vec<Instruction>,
+    signed: bool,
+    quotient: bool,
+    d: u8,
+    a: u8,
+) -> Result<(), NoMemory>
+    ensures { Adds result (divided signed quotient d a) out.old.items out.new.items }
+{
+    let divisor = Register::Ecx;
+    let first = Instruction::Copy {
+        target: Register::Eax,
+        source: register_of(a),
+    };
+    let last = Instruction::Copy {
+        target: register_of(d),
+        source: divided_in(quotient),
+    };
+    if signed {
+        let divide = Instruction::Divide { divisor };
+        return add(out, &[first, Instruction::Extend, divide, last]);
+    }
+    let high = Instruction::Set {
+        target: Register::Edx,
+        word: 0,
+    };
+    add(out, &[first, high, Instruction::DivideU { divisor }, last])
+}
+
+pub(crate) fn add_division(
+    out: &mut Vec<Instruction>,
+    signed: bool,
+    quotient: bool,
+    d: u8,
+    a: u8,
+    b: u8,
+    known: Option<u32>,
+) -> Result<(), NoMemory>
+    ensures { Adds result (divides signed quotient d a b known) out.old.items out.new.items }
+{
+    add_divisor(out, signed, a, b, known)?;
+    add_divided(out, signed, quotient, d, a)
+}
