@@ -1,0 +1,4 @@
+mod Rests
+mod Saved
+mod Outs
+mod Nexts
