@@ -1,14 +1,15 @@
 -- The end of a body, where nothing of the running function is left to do, and what a callee gives back.
-use Rattle.std.proofs.Common.{◌≡◌, ℕ, List, [], ◌∷◌, Option, Some, None, take, drop, refl, ap}
+use Rattle.std.proofs.Common.{◌≡◌, ℕ, List, [], ◌∷◌, Option, Some, None, take, drop, refl, sym, ap, ◌∙◌}
 use Rattle.std.specs.Option.{option_or}
 use Rattle.c_program.specs.declared.action.Target.{Target}
 use Rattle.c_program.specs.declared.action.Target.TheVariants.{Nowhere, Local, Global, Caller}
 use Rattle.c_program.specs.declared.function.Ending.TheVariants as E
 use Rattle.c_program.specs.Trees.{FunctionTree}
 use Rattle.c_program.specs.State.{State}
-use Rattle.c_program.specs.Meaning.{Falls, Returns, arrives, comes_back, ends, hands_back}
+use Rattle.c_program.specs.Meaning.{Falls, Breaks, Continues, Returns, arrives, comes_back, ends, hands_back}
 use Rattle.c_faults.specs.declared.cause.Cause.TheVariants.{NoReturn}
-use Rattle.c_faults.specs.Changes.{arrival_gap, return_gap, back_gap, end_gap, main_gap}
+use Rattle.c_faults.specs.declared.fault.Fault.{Fault}
+use Rattle.c_faults.specs.Changes.{malformed, arrival_gap, return_gap, back_gap, end_gap, main_gap}
 use Rattle.c_faults.specs.Frames.{told, Places}
 use Rattle.c_faults_step.specs.declared.item.Item.{Item}
 use Rattle.c_faults_step.specs.declared.item.Item.TheVariants.{Do, Body, Last, Back}
@@ -61,6 +62,25 @@ end_wrong places functions (Back w ∷ items) r below s h e =
     (option_or (told (frame w.running items) (back_gap w.place w.target (ends k (Falls s))))
     (ahead places functions items w.running (take w.base below) (comes_back w.target (drop w.base below) (ends k (Falls s))))))
     e
+
+-- what leaves the whole, but no loop of it, stands for nothing
+pub stops_breaks : (places : Places) (functions : List FunctionTree) (left old : List Item) (r : Running) (below : List (Option ℕ)) (s : State)
+    (whole : Option Fault) → left ≡ [] → old ≡ [] → ahead places functions old r below (Breaks s) ≡ whole → told (frame r left) (malformed r.end) ≡ whole
+stops_breaks places functions left old r below s whole e e' so =
+    ap (λ (l : List Item). told (frame r l) (malformed r.end)) e ∙ sym (ap (λ (l : List Item). ahead places functions l r below (Breaks s)) e') ∙ so
+
+pub stops_continues : (places : Places) (functions : List FunctionTree) (left old : List Item) (r : Running) (below : List (Option ℕ)) (s : State)
+    (whole : Option Fault) → left ≡ [] → old ≡ [] → ahead places functions old r below (Continues s) ≡ whole → told (frame r left) (malformed r.end) ≡ whole
+stops_continues places functions left old r below s whole e e' so =
+    ap (λ (l : List Item). told (frame r l) (malformed r.end)) e ∙ sym (ap (λ (l : List Item). ahead places functions l r below (Continues s)) e') ∙ so
+
+-- main returns no word
+pub stops_returns : (places : Places) (functions : List FunctionTree) (left old : List Item) (r : Running) (below : List (Option ℕ)) (w : Option ℕ) (s : State)
+    (whole : Option Fault) → w ≡ None → left ≡ [] → old ≡ [] → ahead places functions old r below (Returns w s) ≡ whole → told (frame r left) (malformed 0) ≡ whole
+stops_returns places functions left old r below w s whole none e e' so =
+    ap (λ (l : List Item). told (frame r l) (malformed 0)) e
+    ∙ sym (ap (λ (l : List Item). ahead places functions l r below (Returns w s)) e' ∙ ap (λ (v : Option ℕ). ahead places functions [] r below (Returns v s)) none)
+    ∙ so
 
 -- a word that is given back arrives
 pub return_some : (at : ℕ) (target : Target) (w : ℕ) (s : State) → return_gap at target (Some w) s ≡ arrival_gap at target s

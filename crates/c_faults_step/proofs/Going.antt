@@ -11,7 +11,7 @@ use Rattle.c_program.specs.State.{State, word}
 use Rattle.c_program.specs.Meaning.{Outcome, Falls, exec, exec_all, after_body, turns_again, begins, comes_back, ends, enters, level}
 use Rattle.c_faults.specs.declared.fault.Fault.{Fault}
 use Rattle.c_faults.specs.Places.{own, others, behind, behind_action}
-use Rattle.c_faults.specs.Changes.{back_gap, end_gap}
+use Rattle.c_faults.specs.Changes.{back_gap, end_gap, main_gap}
 use Rattle.c_faults.specs.Frames.{Frame, told, calling, Turns, work_of, Places, places_in}
 use Rattle.c_faults.specs.Faults.{fault, fault_all, again_fault, last_fault, after_fault, body_fault, entered_fault, blames}
 use Rattle.c_faults_step.specs.declared.item.Item.{Item}
@@ -96,17 +96,17 @@ last_goes_on places functions items new r below c all qs s at only e =
     ∙ last_turns places functions c.bound f ps condition body last s rest
 
 -- a function's body, on the words of its arguments, with its caller behind it
-pub body_goes_on : (places : Places) (functions : List FunctionTree) (items new : List Item) (caller : Waiting) (n number end blank : ℕ) (g : Function)
+pub body_goes_on : (places : Places) (functions : List FunctionTree) (items new : List Item) (caller : Waiting) (n number end stop blank : ℕ) (g : Function)
     (body : Bor (List Action)) (qs : Bor (List ℕ)) (ws : List ℕ) (locals middle after : List (Option ℕ)) (globals : List (List ℕ)) (output : List ℕ) →
     length locals ≡ end → blank ≡ g.locals - g.parameters → middle ≡ locals ++ map Some ws → after ≡ middle ++ replicate blank None →
-    qs.now ≡ others (places_in places number) → body.now ≡ g.body → new ≡ Do n body qs ∷ Back caller ∷ items →
+    stop ≡ own (places_in places number) → qs.now ≡ others (places_in places number) → body.now ≡ g.body → new ≡ Do n body qs ∷ Back caller ∷ items →
     let lower = level functions n in
     let blame = blames places functions n in
     let s : State = record { locals = drop caller.base locals; globals = globals; output = output } in
     let f = frame caller.running items in
     let begun = begins (function_tree g) ws s in
     let callee = slice_get functions number in
-    let r : Running = record { function = number; ending = g.ending; end = own (places_in places number) } in
+    let r : Running = record { function = number; ending = g.ending; end = stop } in
     let within : Frame = record { function = number; callers = calling f caller.place } in
     entered_fault places lower blame (calling f caller.place) number callee ws s ≡ body_fault within lower blame (places_in places number) (function_tree g) begun →
     enters lower callee ws s ≡ ends g.ending (exec_all lower (actions_tree g.body) begun) →
@@ -114,16 +114,16 @@ pub body_goes_on : (places : Places) (functions : List FunctionTree) (items new 
     ≡ option_or (entered_fault places lower blame (calling f caller.place) number callee ws s)
     (option_or (told f (back_gap caller.place caller.target (enters lower callee ws s)))
     (ahead places functions items caller.running (take caller.base locals) (comes_back caller.target s.locals (enters lower callee ws s))))
-body_goes_on places functions items new caller n number end blank g body qs ws locals middle after globals output count e mid is at only pile blamed entered =
+body_goes_on places functions items new caller n number end stop blank g body qs ws locals middle after globals output count e mid is stops at only pile blamed entered =
     let lower = level functions n in
     let blame = blames places functions n in
     let s : State = record { locals = drop caller.base locals; globals = globals; output = output } in
     let f = frame caller.running items in
     let begun = begins (function_tree g) ws s in
     let own' = places_in places number in
-    let r : Running = record { function = number; ending = g.ending; end = own own' } in
     let within : Frame = record { function = number; callers = calling f caller.place } in
-    let stands = λ (l : List Item) (under locals' : List (Option ℕ)).
+    let stands = λ (k : ℕ) (l : List Item) (under locals' : List (Option ℕ)).
+    let r : Running = record { function = number; ending = g.ending; end = k } in
     ahead places functions l r under (Falls (record { locals = locals'; globals = globals; output = output })) in
     let back = λ (o : Outcome).
     option_or (told f (back_gap caller.place caller.target o))
@@ -132,11 +132,47 @@ body_goes_on places functions items new caller n number end blank g body qs ws l
     let does = λ (q : List ℕ) (l : List Action).
     option_or (fault_all within lower blame q (actions_tree l) begun) (behind' (exec_all lower (actions_tree l) begun)) in
     let done = exec_all lower (actions_tree g.body) begun in
-    ap (λ (l : List Item). stands l (take end after) (drop end after)) pile
-    ∙ fresh (stands (Do n body qs ∷ Back caller ∷ items)) end blank (g.locals - g.parameters) locals middle after ws count e mid is
+    ap (λ (k : ℕ). stands k new (take end after) (drop end after)) stops
+    ∙ ap (λ (l : List Item). stands (own own') l (take end after) (drop end after)) pile
+    ∙ fresh (stands (own own') (Do n body qs ∷ Back caller ∷ items)) end blank (g.locals - g.parameters) locals middle after ws count e mid is
     ∙ ap (λ (q : List ℕ). does q body.now) at
     ∙ ap (does (others own')) only
     ∙ sym
     (or_assoc (fault_all within lower blame (others own') (actions_tree g.body) begun) (told within (end_gap (own own') g.ending done)) (back (ends g.ending done)))
     ∙ ap (λ (o : Outcome). option_or (body_fault within lower blame own' (function_tree g) begun) (back o)) (sym entered)
     ∙ ap (λ (x : Option Fault). option_or x (back (enters lower (slice_get functions number) ws s))) (sym blamed)
+
+-- main's body, with nothing behind it
+pub main_goes_on : (places : Places) (functions : List FunctionTree) (items : List Item) (n number stop : ℕ) (g : Function) (body : Bor (List Action))
+    (qs : Bor (List ℕ)) (locals : List (Option ℕ)) (globals cells : List (List ℕ)) →
+    stop ≡ own (places_in places number) → qs.now ≡ others (places_in places number) → body.now ≡ g.body → items ≡ Do n body qs ∷ [] →
+    locals ≡ replicate (g.locals - g.parameters) None → cells ≡ globals →
+    let lower = level functions n in
+    let r : Running = record { function = number; ending = g.ending; end = stop } in
+    let f : Frame = record { function = number; callers = [] } in
+    let s : State = record { locals = replicate (g.locals - g.parameters) None; globals = globals; output = [] } in
+    ahead places functions items r (take 0 locals) (Falls (record { locals = drop 0 locals; globals = cells; output = [] }))
+    ≡ option_or (body_fault f lower (blames places functions n) (places_in places number) (function_tree g) s)
+    (told f (main_gap 0 (ends g.ending (exec_all lower (actions_tree g.body) s))))
+main_goes_on places functions items n number stop g body qs locals globals cells stops at only pile blank begun =
+    let lower = level functions n in
+    let blame = blames places functions n in
+    let f : Frame = record { function = number; callers = [] } in
+    let own' = places_in places number in
+    let stands = λ (k : ℕ) (l : List Item) (locals' : List (Option ℕ)) (cells' : List (List ℕ)).
+    let r : Running = record { function = number; ending = g.ending; end = k } in
+    ahead places functions l r (take 0 locals') (Falls (record { locals = drop 0 locals'; globals = cells'; output = [] })) in
+    let fresh' = replicate (g.locals - g.parameters) None in
+    let s : State = record { locals = fresh'; globals = globals; output = [] } in
+    let behind' = λ (o : Outcome). option_or (told f (end_gap (own own') g.ending o)) (told f (main_gap 0 (ends g.ending o))) in
+    let does = λ (q : List ℕ) (l : List Action).
+    option_or (fault_all f lower blame q (actions_tree l) s) (behind' (exec_all lower (actions_tree l) s)) in
+    let done = exec_all lower (actions_tree g.body) s in
+    ap (λ (k : ℕ). stands k items locals cells) stops
+    ∙ ap (λ (l : List Item). stands (own own') l locals cells) pile
+    ∙ ap (λ (l : List (Option ℕ)). stands (own own') (Do n body qs ∷ []) l cells) blank
+    ∙ ap (stands (own own') (Do n body qs ∷ []) fresh') begun
+    ∙ ap (λ (q : List ℕ). does q body.now) at
+    ∙ ap (does (others own')) only
+    ∙ sym
+    (or_assoc (fault_all f lower blame (others own') (actions_tree g.body) s) (told f (end_gap (own own') g.ending done)) (told f (main_gap 0 (ends g.ending done))))

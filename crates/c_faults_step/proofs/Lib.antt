@@ -4,3 +4,6 @@ pub mod Turning
 pub mod Entered
 pub mod Ending
 pub mod Going
+pub mod Beginning
+pub mod Listed
+pub mod Choosing

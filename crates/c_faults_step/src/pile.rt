@@ -11,7 +11,7 @@ pub struct Pile<'a> {
 
 impl<'a> Pile<'a> {
     ghost use Rattle.std.specs.Prelude.{◌≡◌, [], ◌∷◌, OnOk, IfOk, MatchOption};
-    ghost use Rattle.c_faults_step.specs.Piles.{pending};
+    ghost use Rattle.c_faults_step.specs.Piles.{pending, IsEmptied};
     ghost use Rattle.c_faults_step.specs.Ahead.{callers_of};
 
     /// Nothing is left.
@@ -35,7 +35,7 @@ impl<'a> Pile<'a> {
 
     #[tactic(auto, using(c_meaning_machine::proofs::Stacks::reverse_push), unfolding(crate::specs::Piles::pending))]
     pub fn pop(&mut self) -> Option<Item<'a>>
-        ensures { MatchOption result (pending self.old ≡ []) (λ top. pending self.old ≡ top ∷ pending self.new) }
+        ensures { MatchOption result (IsEmptied self.old self.new) (λ top. pending self.old ≡ top ∷ pending self.new) }
     {
         self.items.pop()
     }
