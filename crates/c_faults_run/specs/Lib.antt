@@ -1,0 +1,4 @@
+pub mod Ends
+pub mod Turning
+pub mod Calls
+pub mod Acts
