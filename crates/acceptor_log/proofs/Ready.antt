@@ -2,6 +2,7 @@
 use Rattle.std.proofs.Common.{◌≡◌, ℕ, List, [], ◌++◌, length, take, refl, sym, ◌∙◌, ap, subst, append-nil}
 use Rattle.std.specs.Prelude.{unwrap_or}
 use Rattle.std.proofs.lemmas.List.{take_at}
+use Rattle.durable_model.specs.declared.disk.Disk as disks
 use Rattle.durable_model.specs.Honest.{Unchanged}
 use Rattle.acceptor_log_form.specs.declared.header.Header.{Header}
 use Rattle.acceptor_log_form.specs.declared.record.Record.{Record}
@@ -29,22 +30,19 @@ first_of-between h xs more bytes count between counted = first_of-stands h xs be
 pub first_of-either : (h : Header) (xs qs : List Record) (bytes : List ℕ) (count : ℕ) → Either h xs (xs ++ qs) bytes → count ≡ length xs → first_of h count bytes ≡ xs
 first_of-either h xs qs bytes count either counted = first_of-between h xs (xs ++ qs) bytes count (either-between h xs (xs ++ qs) bytes (qs, refl) either) counted
 
-module _ {D : Type 0} (is_honest : D → Type 0) (seen : D → List ℕ) (may_leave : D → List ℕ → Type 0) (h : Header) where
-  abbrev pub RestsOn : List Record → ℕ → D → Type 0
-  RestsOn rs gate disk = Rests is_honest seen may_leave h rs gate disk
-
+module _ {D : Type 0} (disk : disks.Ghosts D) (h : Header) where
   -- a disk that rests on so many records: they are what is acknowledged
-  pub first_of-rests : (rs : List Record) (gate count : ℕ) (disk : D) → RestsOn rs gate disk → count ≡ length rs → first_of h count (seen disk) ≡ rs
-  first_of-rests rs gate count disk rests counted = first_of-stands h rs rs (seen disk) count rests.stands ([], sym (append-nil rs)) counted
+  pub first_of-rests : (rs : List Record) (gate count : ℕ) (now : D) → Rests disk h rs gate now → count ≡ length rs → first_of h count (disk.seen now) ≡ rs
+  first_of-rests rs gate count now rests counted = first_of-stands h rs rs (disk.seen now) count rests.stands ([], sym (append-nil rs)) counted
 
-  pub rests-first_of : (rs : List Record) (gate count : ℕ) (disk : D) → RestsOn rs gate disk → count ≡ length rs → RestsOn (first_of h count (seen disk)) gate disk
-  rests-first_of rs gate count disk rests counted = subst (λ l. RestsOn l gate disk) (sym (first_of-rests rs gate count disk rests counted)) rests
+  pub rests-first_of : (rs : List Record) (gate count : ℕ) (now : D) → Rests disk h rs gate now → count ≡ length rs → Rests disk h (first_of h count (disk.seen now)) gate now
+  rests-first_of rs gate count now rests counted = subst (λ l. Rests disk h l gate now) (sym (first_of-rests rs gate count now rests counted)) rests
 
-  pub counted-first_of : (rs : List Record) (gate count : ℕ) (disk : D) → RestsOn rs gate disk → count ≡ length rs → count ≡ length (first_of h count (seen disk))
-  counted-first_of rs gate count disk rests counted = counted ∙ ap length (sym (first_of-rests rs gate count disk rests counted))
+  pub counted-first_of : (rs : List Record) (gate count : ℕ) (now : D) → Rests disk h rs gate now → count ≡ length rs → count ≡ length (first_of h count (disk.seen now))
+  counted-first_of rs gate count now rests counted = counted ∙ ap length (sym (first_of-rests rs gate count now rests counted))
 
   -- a call that changed nothing leaves it at rest
-  pub rests-unchanged : (rs : List Record) (gate : ℕ) (old new : D) → RestsOn rs gate old → is_honest new → Unchanged seen may_leave old new → RestsOn rs gate new
+  pub rests-unchanged : (rs : List Record) (gate : ℕ) (old new : D) → Rests disk h rs gate old → disk.is_honest new → Unchanged disk.seen disk.may_leave old new → Rests disk h rs gate new
   rests-unchanged rs gate old new rests honest same = record {
     honest = honest;
     stands = subst (λ (l : List ℕ). StandsFor h rs l) (sym same.same) rests.stands;

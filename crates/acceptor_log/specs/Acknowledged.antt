@@ -17,8 +17,8 @@ abbrev pub acknowledged : {D : Type 0} → (D → List ℕ) → Log D → List R
 acknowledged seen log = take log.count (unwrap_or (listed log.header (seen log.disk)) [])
 
 -- of a log that goes on, on an honest disk
-abbrev pub WhileGoing : {D : Type 0} → (D → Type 0) → Log D → Type 0 → Type 0
-WhileGoing is_honest log P = is_honest log.disk → log.going ≡ true → P
+abbrev pub WhileGoing : {D : Type 0} → disks.Ghosts D → Log D → Type 0 → Type 0
+WhileGoing disk log P = disk.is_honest log.disk → log.going ≡ true → P
 
 -- a record more is acknowledged
 abbrev pub Adds : {D : Type 0} → (D → List ℕ) → Record → Log D → Log D → Type 0
@@ -37,15 +37,13 @@ abbrev pub text_with_all : {D : Type 0} → (D → List ℕ) → Log D → List 
 text_with_all seen log qs = with_records (seen log.disk) log.gate qs
 
 -- the log may go on: its disk rests on what it has acknowledged
-pub record IsReady {D : Type 0} (is_honest : D → Type 0) (seen : D → List ℕ) (may_leave : D → List ℕ → Type 0)
-    (log : Log D) : Type 0 where
-  pub rests : Rests is_honest seen may_leave log.header (acknowledged seen log) log.gate log.disk
-  pub counted : log.count ≡ length (acknowledged seen log)
+pub record IsReady {D : Type 0} (disk : disks.Ghosts D) (log : Log D) : Type 0 where
+  pub rests : Rests disk log.header (acknowledged disk.seen log) log.gate log.disk
+  pub counted : log.count ≡ length (acknowledged disk.seen log)
 
 -- while it goes on, it may
-abbrev pub IsSound : {D : Type 0} → (D → Type 0) → (D → List ℕ) → (D → List ℕ → Type 0) → Log D → Type 0
-IsSound is_honest seen may_leave log =
-    is_honest log.disk → log.going ≡ true → IsReady is_honest seen may_leave log
+abbrev pub IsSound : {D : Type 0} → disks.Ghosts D → Log D → Type 0
+IsSound disk log = disk.is_honest log.disk → log.going ≡ true → IsReady disk log
 
 -- how many bytes the file has up to its closed gate, once the record is put down
 abbrev pub file_with : {D : Type 0} → Log D → Record → ℕ

@@ -38,23 +38,19 @@ module _ {D : Type 0} (disk : disks.Ghosts D) where
   abbrev pub LeavesEither : Header → List Record → List Record → D → D → Type 0
   LeavesEither h low high old new = LeavesOnly disk.moment disk.left_since old new (Either h low high)
 
-  -- the disk rests on these records, and their closed gate stands at `gate`
-  abbrev pub RestsOn : Header → List Record → ℕ → D → Type 0
-  RestsOn h rs gate now = Rests disk.is_honest disk.seen disk.may_leave h rs gate now
-
-  -- it rests on those that were listed
+  -- the disk rests on those records that were listed
   abbrev pub RestsOnListed : D → Header → Listed → Type 0
-  RestsOnListed now h found = RestsOn h found.records.items found.gate now
+  RestsOnListed now h found = Rests disk h found.records.items found.gate now
 
   -- of each list of so many records that it rests on
   abbrev pub ForRested : Header → ℕ → ℕ → D → (List Record → Type 0) → Type 0
-  ForRested h count gate now P = (rs : List Record) → count ≡ length rs → RestsOn h rs gate now → P rs
+  ForRested h count gate now P = (rs : List Record) → count ≡ length rs → Rests disk h rs gate now → P rs
 
   -- ---- these blocks are put behind the closed gate at `gate`
   module _ (gate : ℕ) (block : List ℕ) (old new : D) where
     -- of each list of records that the disk rested on, and those that it is the blocks of
     abbrev pub ForBlocks : (Header → List Record → List Record → Type 0) → Type 0
-    ForBlocks P = (h : Header) (rs qs : List Record) → RestsOn h rs gate old → AreBlocks qs block → P h rs qs
+    ForBlocks P = (h : Header) (rs qs : List Record) → Rests disk h rs gate old → AreBlocks qs block → P h rs qs
 
     -- a crash at any moment of it leaves the records before, with all of those or with none
     abbrev pub LeavesWithOrWithout : Type 0
@@ -62,7 +58,7 @@ module _ {D : Type 0} (disk : disks.Ghosts D) where
 
     -- where it succeeds the disk rests on them too
     abbrev pub PutsDown : {T : Type 0} → Result T DiskError → Type 0
-    PutsDown result = ForBlocks (λ h rs qs. OnOk result (RestsOn h (rs ++ qs) (gate + length block) new))
+    PutsDown result = ForBlocks (λ h rs qs. OnOk result (Rests disk h (rs ++ qs) (gate + length block) new))
 
     -- where it is out of memory it changed nothing
     abbrev pub StaysUnwritten : {T : Type 0} → Result T DiskError → Type 0

@@ -41,7 +41,7 @@ module _ {D : Type 0} (disk : disks.Ghosts D) where
   -- a crash between two calls leaves what is acknowledged, of a journal that goes on
   abbrev pub LeavesAcknowledged : Type 0
   LeavesAcknowledged =
-      (log : Log D) (bytes : List ℕ) → IsSound disk.is_honest disk.seen disk.may_leave log → disk.is_honest log.disk
+      (log : Log D) (bytes : List ℕ) → IsSound disk log → disk.is_honest log.disk
       → log.going ≡ true → disk.may_leave log.disk bytes → StandsFor log.header (acknowledged disk.seen log) bytes
 
   -- a crash behind a call leaves such a journal as one at any moment of it left

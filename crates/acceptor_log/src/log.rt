@@ -42,7 +42,7 @@ impl<D: Disk> Log<D> {
     /// Makes the journal with this header and no records on a disk, over what is there. Until it has answered `Ok`
     /// nothing is promised of the disk; after `NoMemory` nothing was written.
     pub fn create(alloc: Global, disk: D, header: &Header) -> Result<Log<D>, (D, LogError)>
-        ensures sound { IfOk result (IsSound D.is_honest D.seen D.may_leave) }
+        ensures sound { IfOk result (IsSound D.Disk) }
         ensures ok { IfOk result (λ log. (log.going ≡ true) × (log.header ≡ header.now)) }
         ensures honest { OnDisk result (λ now. D.is_honest now ↔ D.is_honest disk) }
         ensures none { D.is_honest disk → IfOk result (λ log. acknowledged D.seen log ≡ []) }
@@ -79,7 +79,7 @@ impl<D: Disk> Log<D> {
         disk: D,
         header: &Header,
     ) -> Result<(Log<D>, Vec<Record>), (D, LogError)>
-        ensures sound { IfOk result (λ opened. IsSound D.is_honest D.seen D.may_leave opened.0) }
+        ensures sound { IfOk result (λ opened. IsSound D.Disk opened.0) }
         ensures ok { IfOk result (λ opened. (opened.0.going ≡ true) × (opened.0.header ≡ header.now)) }
         ensures honest { OnOpened result (λ now. D.is_honest now ↔ D.is_honest disk) }
         ensures listed { D.is_honest disk
@@ -120,12 +120,12 @@ impl<D: Disk> Log<D> {
     /// Adds a record. At `Ok` it is acknowledged: from then on each crash leaves a journal that has it. After
     /// `Device` every call answers `Stopped`, until the journal is opened again.
     pub fn append(&mut self, entry: &Record) -> Result<(), LogError>
-        requires { IsSound D.is_honest D.seen D.may_leave self.old }
-        ensures sound { IsSound D.is_honest D.seen D.may_leave self.new }
+        requires { IsSound D.Disk self.old }
+        ensures sound { IsSound D.Disk self.new }
         ensures honest { D.is_honest self.new.disk ↔ D.is_honest self.old.disk }
         ensures same { self.new.header ≡ self.old.header }
 
-        ensures added { WhileGoing D.is_honest self.old (OnOk result (Adds D.seen entry.now self.old self.new)) }
+        ensures added { WhileGoing D.Disk self.old (OnOk result (Adds D.seen entry.now self.old self.new)) }
         ensures err { D.is_honest self.old.disk
             → OnErr result (acknowledged D.seen self.new ≡ acknowledged D.seen self.old) }
         ensures ok { OnOk result ((self.old.going ≡ true) × (self.new.going ≡ true)) }
@@ -133,7 +133,7 @@ impl<D: Disk> Log<D> {
             → OnOk result (D.seen self.new.disk ≡ text_with D.seen self.old entry.now) }
 
         // A crash at any moment of the call leaves what was acknowledged before it, with the record or without.
-        ensures any_moment { WhileGoing D.is_honest self.old (LeavesAddedOrNot D.Disk entry.now self.old self.new) }
+        ensures any_moment { WhileGoing D.Disk self.old (LeavesAddedOrNot D.Disk entry.now self.old self.new) }
 
         // It does not give up by itself.
         ensures stopped { self.old.going ≡ false → (result ≡ Err LogError.Stopped) × (self.new ≡ self.old) }
@@ -155,12 +155,12 @@ impl<D: Disk> Log<D> {
     /// Adds records, in one write and two syncs, however many they are. At `Ok` all are acknowledged: from then on each crash
     /// leaves a journal that has them. A crash before leaves all or none. Of none it does nothing, while it goes on.
     pub fn append_all(&mut self, entries: &[Record]) -> Result<(), LogError>
-        requires { IsSound D.is_honest D.seen D.may_leave self.old }
-        ensures sound { IsSound D.is_honest D.seen D.may_leave self.new }
+        requires { IsSound D.Disk self.old }
+        ensures sound { IsSound D.Disk self.new }
         ensures honest { D.is_honest self.new.disk ↔ D.is_honest self.old.disk }
         ensures same { self.new.header ≡ self.old.header }
 
-        ensures added { WhileGoing D.is_honest self.old
+        ensures added { WhileGoing D.Disk self.old
             (OnOk result (AddsAll D.seen entries.now self.old self.new)) }
         ensures err { D.is_honest self.old.disk
             → OnErr result (acknowledged D.seen self.new ≡ acknowledged D.seen self.old) }
@@ -170,7 +170,7 @@ impl<D: Disk> Log<D> {
         ensures none { entries.now ≡ [] → self.old.going ≡ true → OnErr result ⊥ × (self.new ≡ self.old) }
 
         // A crash at any moment of the call leaves what was acknowledged before it, with all the records or with none.
-        ensures any_moment { WhileGoing D.is_honest self.old (LeavesAllOrNone D.Disk entries.now self.old self.new) }
+        ensures any_moment { WhileGoing D.Disk self.old (LeavesAllOrNone D.Disk entries.now self.old self.new) }
 
         // It does not give up by itself.
         ensures stopped { self.old.going ≡ false → (result ≡ Err LogError.Stopped) × (self.new ≡ self.old) }
@@ -215,7 +215,7 @@ impl<D: Disk> Log<D> {
         requires { count ≤ gate }
         ensures parts { (result.disk ≡ disk) × (result.header ≡ header.now) × (result.going ≡ true) }
         ensures ready { ForRested D.Disk header.now count gate disk
-            (λ rs. IsReady D.is_honest D.seen D.may_leave result) }
+            (λ rs. IsReady D.Disk result) }
         ensures acknowledged { ForRested D.Disk header.now count gate disk (λ rs. acknowledged D.seen result ≡ rs) }
     {
         Log {

@@ -3,7 +3,8 @@
 ghost use Rattle.std.specs.Prelude.{◌≡◌, ◌≢◌, ◌≤◌, ◌↔◌, [], length, OnOk, IfOk, IfErr};
 ghost use Rattle.durable_model.specs.Honest.{Risen};
 ghost use Rattle.acceptor_log_form.specs.Text.{header_size};
-ghost use Rattle.acceptor_log.specs.Calls.{LeavesNothingNew, RestsOn, RestsOnListed, Stays};
+ghost use Rattle.acceptor_log.specs.Calls.{LeavesNothingNew, RestsOnListed, Stays};
+ghost use Rattle.acceptor_log.specs.Rest.{Rests};
 ghost use Rattle.acceptor_log.specs.Faults.{log_fault, HasCauseIn, UnlessDevice};
 ghost use Rattle.acceptor_log_writing.specs.Written.{with_journal};
 
@@ -16,7 +17,7 @@ use std::alloc::Global;
 /// Writes the journal of no records, in one write, and syncs it.
 pub fn lay<D: Disk>(alloc: Global, header: &Header, disk: &mut D) -> Result<(), LogError>
     ensures honest { D.is_honest disk.new ↔ D.is_honest disk.old }
-    ensures rests { D.is_honest disk.old → OnOk result (RestsOn D.Disk header.now [] header_size disk.new) }
+    ensures rests { D.is_honest disk.old → OnOk result (Rests D.Disk header.now [] header_size disk.new) }
     ensures bytes { D.is_honest disk.old → OnOk result (D.seen disk.new ≡ with_journal header.now (D.seen disk.old)) }
     ensures unwritten { D.is_honest disk.old → IfErr result (UnlessDevice (Stays D.Disk disk.old disk.new)) }
     ensures faults { IfErr result (λ e. e ≢ LogError.Device → e ≡ LogError.NoMemory) }

@@ -39,7 +39,7 @@ module _ {P : Type 0} (disk : disks.Ghosts P) (pair : pairs.Ghosts P) where
   abbrev pub IsLaid : Header → P → P → Laid → Type 0
   IsLaid h given now laid =
       (rs : List Record) × CanMigrate h rs (pair.old_seen given) × (laid.count ≡ length (migrated rs))
-      × Rests disk.is_honest disk.seen disk.may_leave h (migrated rs) laid.gate now
+      × Rests disk h (migrated rs) laid.gate now
 
   -- A crash at any moment on the way leaves the old journal, which was synced, or the new one.
   abbrev pub Moves : Header → P → P → Type 0

@@ -22,7 +22,7 @@ pub fn migrate<P: Pair>(alloc: Global, pair: P, header: &Header) -> Result<Log<P
     ensures ok { IfOk result (λ log. (log.going ≡ true) × (log.header ≡ header.now)) }
     ensures whole { P.is_whole (disk_back result) ↔ P.is_whole pair }
     // Once it has answered the pair is honest as a disk, and rests on what the old journal's records were made to.
-    ensures ready { P.is_whole pair → IfOk result (IsReady P.is_honest P.seen P.may_leave) }
+    ensures ready { P.is_whole pair → IfOk result (IsReady P.Disk) }
     ensures migrated { P.is_whole pair → IfOk result (HasMigrated P.Disk P.Pair.own header.now pair) }
     ensures turned { P.is_whole pair → IfOk result (λ log. IsTurned P.Pair.own pair log.disk) }
 

@@ -1,5 +1,6 @@
 -- What a crash left of the nodes of a build opens again.
 use Rattle.std.proofs.Common.{ℕ, ◌<◌, List, None, sym, subst, arith}
+use Rattle.std.specs.Arc.{arc_value}
 use Rattle.durable_model.specs.declared.disk.Disk as disks
 use Rattle.durable_pair.specs.declared.pair.Pair as pairs
 use Rattle.durable_pair.specs.Images.{IsSpent}
@@ -11,8 +12,10 @@ use Rattle.rooms_crash_heard.proofs.Neighbours.{neighbours_hear}
 use Rattle.farm_nodes_source.specs.declared.source.Source.{Source}
 use Rattle.farm_nodes_crash.specs.Meeting.{HearAll}
 use Rattle.farm_nodes_crash.specs.Rooms.{RoomsRest}
+use Rattle.farm_nodes_crash_left.proofs.Accepted.{AllHaveOwnTexts}
 use Rattle.farm_nodes_crash.proofs.AtRest.{met_nodes_rest}
 use Rattle.farm_nodes_crash.proofs.Journals.{left_journals_stand}
+use Rattle.farm_nodes_crash.proofs.Machine.{but_for_machine}
 use Rattle.farm_nodes_crash.proofs.Reopening.{left_rooms_stand}
 use Rattle.cfarm_build_meeting.specs.Twice.{MetTwice}
 use Rattle.cfarm_build.specs.Built.{Built}
@@ -51,16 +54,19 @@ module _ {D : Type 0} (disk : disks.Ghosts D) (pair : pairs.Ghosts D) {H : Type 
 
 pub build_opens_again : {D : Type 0} (disk : disks.Ghosts D) (pair : pairs.Ghosts D) {H : Type 0} (h : naming.Ghosts H) (q : Sizes) → AreQuorums q
     → ((p : D) (d : List ℕ) → disk.is_honest p → pair.old_may p d → IsSpent d)
-    → ((p : D) (c : List ℕ) → disk.is_honest p → pair.new_may p c → disk.may_leave p c)
+    → ((p : D) (c : List ℕ) → disk.is_honest p → pair.new_may p c → disk.may_leave p c) → AllHaveOwnTexts
     → (source : Source) (given back : List D) (built : Built) (left : List D) → OpensAgain disk pair h q source given back built left
-build_opens_again disk pair h q sizes honest_spent new_is_left source given back built left of =
+build_opens_again disk pair h q sizes honest_spent new_is_left own source given back built left of =
     let log = log_at disk pair h q source given back built left of (some_log disk pair h q sizes source given back built left of) in
     let seats = seats_then disk pair h q source given back built left of in
     let all = was_left disk pair h q source given back built left of (some_log disk pair h q sizes source given back built left of) in
-    let stand = left_journals_stand disk pair q honest_spent new_is_left source.digest (functions_in source) log seats (λ i. None) left all in
+    let stand = left_journals_stand disk pair q honest_spent new_is_left own source.digest (functions_in source) log seats (λ i. None) left all in
+    let rooms = left_rooms_stand disk pair q honest_spent new_is_left source.digest (functions_in source) log seats (λ i. None) left all
+    (rest disk pair h q sizes source given back built left of) in
     record {
       journals = stand.0;
       records = stand.1;
-      rooms = left_rooms_stand disk pair q honest_spent new_is_left source.digest (functions_in source) log seats (λ i. None) left all
-          (rest disk pair h q sizes source given back built left of);
+      offers = stand.2;
+      rooms = rooms;
+      opens = but_for_machine disk pair q source.digest (arc_value source.translated) left stand.0 stand.1 stand.2 rooms;
     }

@@ -41,7 +41,7 @@ use Rattle.farm_nodes_restart_records.proofs.Rooms.{function_at, pass_at_room}
 use Rattle.farm_nodes_link.specs.Learned.{FourOffers, IsUndecided, learned_by, learned_four}
 use Rattle.farm_nodes_link.specs.Offered.{linked_offers}
 use Rattle.farm_nodes_crash.specs.Again.{AreOpenedOn}
-use Rattle.farm_nodes_crash.specs.Left.{IsNode, NodeSeats}
+use Rattle.farm_nodes_crash_left.specs.Left.{IsNode, NodeSeats}
 use Rattle.farm_nodes_crash.proofs.AtRest.{node_seat}
 use Rattle.farm_nodes_crash.proofs.Heard.{heard_is_learned_again}
 use Rattle.farm_nodes_crash.proofs.Meeting.{counted as counted_on}

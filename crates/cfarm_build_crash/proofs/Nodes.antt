@@ -20,7 +20,7 @@ use Rattle.farm_nodes_turn_node.specs.NumberedSeat.{NumberedSeat}
 use Rattle.farm_nodes_turn_node.specs.declared.halted.Halted.{Halted}
 use Rattle.farm_nodes_turn_node.proofs.Places.{found, map_at, map_length}
 use Rattle.farm_nodes_open_journals.specs.Journals.{header_of}
-use Rattle.farm_nodes_crash.specs.Left.{AreLeftOf, IsLeftOf, IsNode, NodeSeats}
+use Rattle.farm_nodes_crash_left.specs.Left.{AreLeftOf, IsLeftOf, IsNode, NodeSeats}
 use Rattle.cfarm_build_meeting.specs.Twice.{AreOfFunctions, MetTwice, by_number, seats_in}
 use Rattle.cfarm_build_meeting.proofs.Meets.{all_here, seats_of}
 use Rattle.cfarm_build.specs.Nodes.{HoldsJournal, NodeStays}
@@ -65,7 +65,7 @@ module _ {D : Type 0} (disk : disks.Ghosts D) (pair : pairs.Ghosts D) {H : Type 
       → n.halted ≡ None → arc_value n.program ≡ arc_value source.translated
       → IsNode disk pair q source.digest (functions_in source) i m.log (fours_of n.seats.items) None
   node_so i p n m ep holds log fit going program = record {
-    sound = subst₂ (λ (l : Log D) (x : Option Halted). IsSoundNode disk.is_honest disk.seen disk.may_leave l (fours_of n.seats.items) x) log going fit.0;
+    sound = subst₂ (λ (l : Log D) (x : Option Halted). IsSoundNode disk l (fours_of n.seats.items) x) log going fit.0;
     waiting = tt;
     header = header_so m.log.header q source.digest i holds.nodes holds.promise holds.accept holds.node holds.digest;
     functions_are = map_length (λ (s : NumberedSeat H h). four_of s) n.seats.items

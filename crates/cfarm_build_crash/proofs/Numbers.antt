@@ -9,6 +9,7 @@ use Rattle.farm_nodes_turn_node.specs.Fours.{four_of, words_of}
 use Rattle.farm_nodes_turn_node.specs.NumberedSeat.{NumberedSeat}
 use Rattle.farm_nodes_turn_node.specs.Which.{Which}
 use Rattle.farm_nodes_turn_node.specs.Which.TheVariants.{Constants, Expressions, Allocation, Order}
+use Rattle.farm_nodes_meet_seats.proofs.Places.{all_link}
 use Rattle.farm_nodes_turn_node.proofs.Places.{found}
 use Rattle.cfarm_build.specs.Alike.{HaveCounted}
 use Rattle.cfarm_build.specs.Neighbours.{EachTwo}
@@ -35,7 +36,7 @@ module _ {H : Type 0} {h : naming.Ghosts H} where
       let below = slice_get_within has.first k c.0 c.1 in
       let c' = found counted.first k (omega (arith, below, all.first)) in
       let d' = found counted.second k (omega (arith, below, all.first, counted.alike)) in
-      let link = counted.met.all counted.alike refl k (omega (arith, below, all.first)) c.0 d.0 c.1 d.1 in
+      let link = all_link held_of counted.first counted.second has.first has.second (length counted.first) counted.met counted.alike refl k (omega (arith, below, all.first)) c.0 d.0 c.1 d.1 in
       let met = all.each k c'.0 d'.0 c.0 d.0 c'.1 d'.1 c.1 d.1 in
       let w = first_learned c.0 d.0 link pass in
       let x = second_learned c.0 d.0 link pass in

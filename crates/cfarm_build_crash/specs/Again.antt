@@ -19,7 +19,8 @@ use Rattle.farm_nodes_turn_passes.specs.NumberedSeat.{NumberedSeat}
 use Rattle.farm_nodes_link.specs.Learned.{IsUndecided, learned_by}
 use Rattle.farm_nodes_link.specs.Offered.{linked_offers}
 use Rattle.farm_nodes_crash.specs.Again.{AreOpenedOn}
-use Rattle.farm_nodes_crash.specs.Stand.{JournalsStand, RecordsStand, RoomsStand}
+use Rattle.farm_nodes_crash.specs.Machine.{OpensButForMachine}
+use Rattle.farm_nodes_crash.specs.Stand.{JournalsStand, OffersStand, RecordsStand, RoomsStand}
 use Rattle.cfarm_build.specs.Built.{Built, IsBuiltBack}
 use Rattle.cfarm_build_crash.specs.Later.{AreLaterSeats}
 use Rattle.cfarm_build_crash.specs.Left.{AreLeftBehind}
@@ -43,11 +44,14 @@ module _ {D : Type 0} (disk : disks.Ghosts D) (pair : pairs.Ghosts D) {H : Type 
     pub whole : AllByRecursion (λ p. pair.is_whole p) given
     pub crash : AreLeftBehind disk pair back left
 
-  -- No journal on them is refused, but for want of memory or where a device fails; no records are out of order, and no room is unsettled.
+  -- No journal on them is refused, but for want of memory or where a device fails; no records are out of order, no offer is refused by its pass,
+  -- and no room is unsettled. So nothing but the machine keeps a farm from opening over them.
   pub record OpenAgain : Type 0 where
     pub journals : JournalsStand disk pair q source.digest (functions_in source) left
     pub records : RecordsStand disk pair q source.digest (functions_in source) left
+    pub offers : OffersStand disk pair q source.digest (functions_in source) left
     pub rooms : RoomsStand disk pair q source.digest (functions_in source) left
+    pub opens : OpensButForMachine disk pair q source.digest (arc_value source.translated) left
 
   -- ---- the promises
 

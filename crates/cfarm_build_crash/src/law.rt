@@ -13,7 +13,7 @@ use paxos_core_world::quorum::Quorums;
 use rooms_hall::Naming;
 
 /// What a crash of all disks that a build gave back, those of its nodes, leaves on them is refused neither with 401 to 404, but for want of
-/// memory or where a device fails, nor with 510; it does nothing.
+/// memory or where a device fails, nor with 301 or 510: it opens, but for memory, a device, or a cell that refuses (511); it does nothing.
 pub fn opens_again<D: Pair, H: Naming>(
     quorums: Quorums,
     source: &Source,
@@ -25,6 +25,10 @@ pub fn opens_again<D: Pair, H: Naming>(
     ensures { OpensAgain D.Disk D.Pair.own H.Naming quorums source.now given.now back.now built.now left.now }
 {
     let _count = quorums.nodes();
+    one_text::<ConstProp>();
+    one_text::<Cse>();
+    one_text::<Alloc>();
+    one_text::<Linearize>();
 }
 
 /// What a node links of a farm that opened over that, whatever it did since, is what was built; it does nothing.

@@ -1,5 +1,5 @@
 -- What a node has learned of whom all functions were counted.
-use Rattle.std.proofs.Common.{◌≡◌, ℕ, List, Option, Some, None, refl, sym, ◌∙◌, arith}
+use Rattle.std.proofs.Common.{◌≡◌, ℕ, List, length, Option, Some, None, refl, sym, ◌∙◌, arith}
 use Rattle.std.specs.Prelude.{IsSome, slice_get}
 use Rattle.std.proofs.lemmas.Option.{slice_get_within}
 use Rattle.rooms_hall.specs.declared.hall.Naming as naming
@@ -12,6 +12,7 @@ use Rattle.farm_nodes_turn_node.specs.SeatState.{SeatState}
 use Rattle.farm_nodes_turn_node.specs.SeatValue.{SeatValue}
 use Rattle.farm_nodes_turn_node.specs.Which.{Which}
 use Rattle.farm_nodes_turn_node.specs.Which.TheVariants.{Constants, Expressions, Allocation, Order}
+use Rattle.farm_nodes_meet_seats.proofs.Places.{all_link}
 use Rattle.farm_nodes_turn_node.proofs.Places.{found}
 use Rattle.cfarm_build_result.specs.Alike.{HaveCounted}
 use Rattle.cfarm_build_result.specs.Going.{FunctionGoesOn}
@@ -60,6 +61,6 @@ module _ {H : Type 0} {h : naming.Ghosts H} where
       let d = found has.second k (omega (arith, low, has.second_on.count)) in
       let below = slice_get_within has.second k d.0 d.1 in
       let a = found has.first k (omega (arith, below, all.first, all.second, counted.alike)) in
-      let link = counted.met.all counted.alike refl k (omega (arith, below, all.second, counted.alike)) a.0 d.0 a.1 d.1 in
+      let link = all_link held_of counted.first counted.second has.first has.second (length counted.first) counted.met counted.alike refl k (omega (arith, below, all.second, counted.alike)) a.0 d.0 a.1 d.1 in
       let learned = second_learned a.0 d.0 link pass in
       (learned.0, goes_learned d.0 b (has.second_on.each k d.0 b d.1 eb) pass learned.0 learned.1)

@@ -1,5 +1,5 @@
 -- Whether the rooms of two nodes are one does not change as they meet others.
-use Rattle.std.proofs.Common.{ℕ, List, refl, sym, ◌∙◌, arith}
+use Rattle.std.proofs.Common.{ℕ, List, length, refl, sym, ◌∙◌, arith}
 use Rattle.std.proofs.lemmas.Option.{slice_get_within}
 use Rattle.rooms_hall.specs.declared.hall.Naming as naming
 use Rattle.farm_nodes_meet_seats.specs.Functions.{AreOne}
@@ -7,6 +7,7 @@ use Rattle.farm_nodes_meet_seats.specs.Held.{held_of}
 use Rattle.farm_nodes_meet_seats.specs.Lists.{IsOneAt}
 use Rattle.farm_nodes_turn_node.specs.NumberedSeat.{NumberedSeat}
 use Rattle.farm_nodes_turn_node.specs.SeatValue.{IsOneRoom, SeatValue}
+use Rattle.farm_nodes_meet_seats.proofs.Places.{all_link}
 use Rattle.farm_nodes_turn_node.proofs.Places.{found}
 use Rattle.cfarm_build_result.specs.Alike.{HaveCounted}
 use Rattle.cfarm_build_result.specs.Going.{FunctionGoesOn, SeatsGoOn}
@@ -59,5 +60,5 @@ module _ {H : Type 0} {h : naming.Ghosts H} where
       let counted = has.counted in
       let low = slice_get_within has.first k a ea in
       let long = (counted.met.met counted.alike).first in
-      let link = counted.met.all counted.alike refl k (omega (arith, low, long)) a b ea eb in
+      let link = all_link held_of counted.first counted.second has.first has.second (length counted.first) counted.met counted.alike refl k (omega (arith, low, long)) a b ea eb in
       record { constants = link.constants.room; expressions = link.expressions.room; allocation = link.allocation.room; order = link.order.room })

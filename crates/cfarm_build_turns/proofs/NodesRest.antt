@@ -75,7 +75,7 @@ module _ {D O H : Type 0} {h : naming.Ghosts H} (disk : disks.Ghosts D) where
         → HaveOpened disk pair q source given seed (map (λ n. rested n) nodes)
     opened_at_rest seed nodes is = record {
       journals = subst (λ l. AreJournalsOn disk pair q source.digest given l) (sym (map_twice (λ (n : FarmNode D O H h). rested n) (λ n. n.log) nodes)) is.journals;
-      rooms = subst₂ (λ l r. AreOpenFromJournals disk.is_honest disk.seen q (length (arc_value source.translated).functions) l r)
+      rooms = subst₂ (λ l r. AreOpenFromJournals disk q (length (arc_value source.translated).functions) l r)
           (sym (map_twice (λ (n : FarmNode D O H h). rested n) (λ n. n.log) nodes)) (sym (map_twice (λ (n : FarmNode D O H h). rested n) (λ n. n.seats.items) nodes)) is.rooms;
       draws = map_twice (λ (n : FarmNode D O H h). rested n) (λ n. n.draws) nodes ∙ is.draws;
       program = all_mapped (λ (n : FarmNode D O H h). rested n) (λ n. arc_value n.program ≡ arc_value source.translated) nodes is.program;

@@ -58,7 +58,7 @@ module _ {D O H : Type 0} {h : naming.Ghosts H} where
     -- The nodes opened on these pairs of disks, with quorums of these sizes and the generators of the seed; nothing has stopped one.
     pub record HaveOpened (seed : ℕ) (nodes : List (FarmNode D O H h)) : Type 0 where
       pub journals : AreJournalsOn disk pair q source.digest given (map (λ n. n.log) nodes)
-      pub rooms : AreOpenFromJournals disk.is_honest disk.seen q (length (arc_value source.translated).functions)
+      pub rooms : AreOpenFromJournals disk q (length (arc_value source.translated).functions)
           (map (λ n. n.log) nodes) (map (λ n. n.seats.items) nodes)
       pub draws : map (λ n. n.draws) nodes ≡ generators seed (length given)
       pub program : AllByRecursion (λ n. arc_value n.program ≡ arc_value source.translated) nodes

@@ -13,7 +13,7 @@ use Rattle.farm_nodes_turn_passes.specs.Numbers.{function_of, room_at}
 use Rattle.farm_nodes_turn_passes.specs.declared.which.Which.{Which}
 use Rattle.farm_nodes_turn_node.specs.declared.halted.Halted.{Halted}
 use Rattle.farm_nodes_restart_records.proofs.Rooms.{function_at, pass_at_room}
-use Rattle.farm_nodes_crash.specs.Left.{IsNode, NodeSeats}
+use Rattle.farm_nodes_crash_left.specs.Left.{IsNode, NodeSeats}
 use Rattle.farm_nodes_crash.specs.Meeting.{AreSeats, FunctionSeats}
 use Rattle.farm_nodes_crash.specs.Stand.{MetNodesRest}
 use Rattle.farm_nodes_crash.proofs.Meeting.{nodes_that_heard_rest}

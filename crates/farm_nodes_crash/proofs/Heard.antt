@@ -30,7 +30,7 @@ use Rattle.farm_nodes_restart_records.proofs.Rooms.{function_at, pass_at_room}
 use Rattle.farm_nodes_open_numbers.specs.Kept.{kept_of}
 use Rattle.farm_nodes_open_nodes.proofs.Lists.{found_at}
 use Rattle.farm_nodes_crash.specs.Again.{AreOpenedOn, HeardIsLearnedAgain, IsLaterSeat}
-use Rattle.farm_nodes_crash.specs.Left.{AreLeftOf, NodeSeats}
+use Rattle.farm_nodes_crash_left.specs.Left.{AreLeftOf, NodeSeats}
 use Rattle.farm_nodes_crash.specs.Meeting.{AreSeats, FunctionSeats, HearAll, NodesMeet, NodesMeetings}
 use Rattle.farm_nodes_crash.specs.Rooms.{RestIn, RoomsRest}
 use Rattle.farm_nodes_crash.proofs.Again.{few, holds}

@@ -1,7 +1,6 @@
-pub mod Pending
 pub mod Nodes
-pub mod Offers
 pub mod Journals
+pub mod Machine
 pub mod Reopening
 pub mod Opened
 pub mod Meeting

@@ -13,7 +13,7 @@ use Rattle.farm_nodes_turn_passes.specs.Fours.{words_of}
 use Rattle.farm_nodes_turn_passes.specs.declared.which.Which.{Which}
 use Rattle.farm_nodes_restart_records.proofs.Rooms.{function_at, pass_at_room}
 use Rattle.farm_nodes_open_nodes.proofs.Lists.{found_at}
-use Rattle.farm_nodes_crash.specs.Left.{NodeSeats}
+use Rattle.farm_nodes_crash_left.specs.Left.{NodeSeats}
 use Rattle.farm_nodes_crash.specs.Meeting.{AreSeats, FunctionSeats, HearAll, NeighboursHearAll, NodesMeet, NodesMeetings, NodesThatHeardRest}
 use Rattle.farm_nodes_crash.specs.Rooms.{RoomsRest}
 

@@ -27,9 +27,11 @@ use Rattle.farm_nodes_turn_passes.specs.Texts.{pass_texts}
 use Rattle.farm_nodes_turn_passes.specs.declared.which.Which.{Which}
 use Rattle.farm_nodes_turn_passes.specs.declared.which.Which.TheVariants.{Constants, Expressions, Allocation, Order}
 use Rattle.farm_nodes_turn_node.specs.declared.halted.Halted.{Halted}
-use Rattle.farm_nodes_open_journals.specs.Journals.{header_of, IsDueToJournal, IsOpened}
-use Rattle.farm_nodes_crash.specs.Left.{IsLeftOf, IsNode, IsWaitingWith, NodeSeats}
-use Rattle.farm_nodes_crash.proofs.Pending.{holds_none, holds_pending, one_at_most, with_or_without, MayWait}
+use Rattle.farm_nodes_open_journals.specs.Journals.{header_of, IsDueTo, IsDueToJournal, IsOpened}
+use Rattle.farm_nodes_open_journals.specs.WhichJournal.{WhichJournal, CountsOn}
+use Rattle.farm_nodes_open_journals.specs.WhichJournal as which
+use Rattle.farm_nodes_crash_left.specs.Left.{IsLeftOf, IsNode, IsWaitingWith, NodeSeats}
+use Rattle.farm_nodes_crash_left.proofs.Pending.{holds_none, holds_pending, one_at_most, with_or_without, MayWait}
 
 abbrev FarmFour : Type 0
 FarmFour = Four ConstantsOffer ExpressionsOffer AllocationOffer OrderOffer
@@ -106,7 +108,7 @@ module _ {D : Type 0} (disk : disks.Ghosts D) (pair : pairs.Ghosts D) (q : Sizes
   abbrev pub upto : List Record
   upto = (node.sound.upto node.honest).0
 
-  pub journal : IsJournalOf pass_texts disk.may_leave log seats halted upto
+  pub journal : IsJournalOf pass_texts disk log seats halted upto
   journal = (node.sound.upto node.honest).1
 
   pub bytes_between : Between header upto (upto ++ pending_in seats halted) (disk.seen p)
@@ -118,13 +120,17 @@ module _ {D : Type 0} (disk : disks.Ghosts D) (pair : pairs.Ghosts D) (q : Sizes
   own_spent = left.shows.spent (honest_spent log.disk left.shows.old node.honest left.shows.left.1)
 
   -- it is not refused
+  own_due : (fault : LogError) (what : WhichJournal) → CountsOn disk pair what p → IsDueTo disk pair header p fault what → ⊥
+  own_due fault which.None none due = due
+  own_due fault which.New new due = between-no_fault header upto (upto ++ pending_in seats halted) (disk.seen p) fault bytes_between due
+  own_due fault which.Old old due = old own_spent
+
   pub own_opens : (fault : LogError) → IsDueToJournal disk pair header p fault → ⊥
-  own_opens fault (inl old) = old.0 own_spent
-  own_opens fault (inr new) = between-no_fault header upto (upto ++ pending_in seats halted) (disk.seen p) fault bytes_between new.1
+  own_opens fault due = own_due fault due.0 due.1 due.2
 
   pub own_stands : (now : Log D) (rs : List Record) → IsOpened disk pair header p now rs → StandsFor header rs (disk.seen p)
   own_stands now rs opened =
-      (opened.listed left.whole
+      (opened.over left.whole which.New
       (own_spent, λ none. no_header header upto (upto ++ pending_in seats halted) (disk.seen p) none.0 bytes_between)).stands
 
   pub own_records : (rs : List Record) → StandsFor header rs (disk.seen p) → (rs ≡ upto) ⊎ (rs ≡ upto ++ pending_in seats halted)

@@ -23,7 +23,7 @@ use Rattle.farm_nodes_open_numbers.specs.Left.{AreLeft, AreLeftIn}
 use Rattle.farm_nodes_open_stored.specs.Nodes.{AreMade}
 use Rattle.farm_nodes_open_stored.specs.Read.{IsKeptPart}
 use Rattle.farm_nodes_open_nodes.proofs.Lists.{found_at}
-use Rattle.farm_nodes_crash.specs.Left.{AreLeftOf, NodeSeats}
+use Rattle.farm_nodes_crash_left.specs.Left.{AreLeftOf, NodeSeats}
 use Rattle.farm_nodes_crash.specs.Stand.{AreGoing, AreSettledFrom, OpenedRoomsStand, RoomsStand}
 use Rattle.farm_nodes_crash.proofs.Nodes.{own_records, own_stands, upto}
 use Rattle.farm_nodes_crash.proofs.Reopening.{kept_at, place_below}

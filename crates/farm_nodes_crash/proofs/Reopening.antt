@@ -29,7 +29,7 @@ use Rattle.farm_nodes_open_numbers.specs.Left.{AreLeft, AreLeftIn}
 use Rattle.farm_nodes_open_stored.specs.Nodes.{AreMade}
 use Rattle.farm_nodes_open_stored.specs.Read.{AreKept, IsKeptPart}
 use Rattle.farm_nodes_open_nodes.proofs.Lists.{at_map, found_at}
-use Rattle.farm_nodes_crash.specs.Left.{AreLeftOf, NodeSeats}
+use Rattle.farm_nodes_crash_left.specs.Left.{AreLeftOf, NodeSeats}
 use Rattle.farm_nodes_crash.specs.Rooms.{RestIn, RoomsRest}
 use Rattle.farm_nodes_crash.specs.Stand.{LeftRoomsStand, RoomsStand}
 use Rattle.farm_nodes_crash.proofs.Nodes.{node_holds}

@@ -17,7 +17,7 @@ use Rattle.farm_nodes_open_numbers.specs.Kept.{kept_of}
 use Rattle.farm_nodes_open_stored.specs.Nodes.{AreMade}
 use Rattle.farm_nodes_open_stored.specs.Read.{AreKept}
 use Rattle.farm_nodes_open_nodes.specs.Back.{IsJournalOn}
-use Rattle.farm_nodes_crash.specs.Left.{AreLeftOf, NodeSeats}
+use Rattle.farm_nodes_crash_left.specs.Left.{AreLeftOf, NodeSeats}
 use Rattle.farm_nodes_crash.specs.Meeting.{FunctionSeats, HearAll}
 use Rattle.farm_nodes_crash.specs.Rooms.{RoomsRest}
 

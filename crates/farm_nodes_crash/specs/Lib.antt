@@ -1,5 +1,5 @@
-pub mod Left
 pub mod Rooms
 pub mod Meeting
 pub mod Stand
+pub mod Machine
 pub mod Again

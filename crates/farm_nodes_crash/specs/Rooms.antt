@@ -8,7 +8,7 @@ use Rattle.rooms_crash.specs.Rest.{AreAtRest}
 use Rattle.farm_nodes_turn_passes.specs.Fours.{words_of, Four}
 use Rattle.farm_nodes_turn_passes.specs.Numbers.{function_of, pass_of, room_at}
 use Rattle.farm_nodes_turn_passes.specs.declared.which.Which.{Which}
-use Rattle.farm_nodes_crash.specs.Left.{NodeSeats}
+use Rattle.farm_nodes_crash_left.specs.Left.{NodeSeats}
 
 -- it is the seat in this room
 abbrev pub IsSeatAt : {T1 T2 T3 T4 : Type 0} → List (Four T1 T2 T3 T4) → ℕ → SeatState → Type 0

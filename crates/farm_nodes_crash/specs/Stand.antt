@@ -14,9 +14,9 @@ use Rattle.farm_nodes_open_numbers.specs.Kept.{AreSettled}
 use Rattle.farm_nodes_open_numbers.specs.declared.fault.RoomFault.TheVariants.{Unsettled}
 use Rattle.farm_nodes_open_stored.specs.Nodes.{AreMade}
 use Rattle.farm_nodes_open_stored.specs.Read.{AreKept}
-use Rattle.farm_nodes_open_nodes.specs.FarmNodesOpenSeatsRefused.{HasBadRecord, IsRoomUnopened}
+use Rattle.farm_nodes_open_nodes.specs.FarmNodesOpenSeatsRefused.{HasBadRecord, HasRefusedOffer, IsRoomUnopened}
 use Rattle.farm_nodes_open_nodes.specs.Refused.{IsRefusedJournal, OfJournals}
-use Rattle.farm_nodes_crash.specs.Left.{AreLeftOf, IsNode, NodeSeats}
+use Rattle.farm_nodes_crash_left.specs.Left.{AreLeftOf, IsNode, NodeSeats}
 use Rattle.farm_nodes_crash.specs.Meeting.{HearAll}
 use Rattle.farm_nodes_crash.specs.Rooms.{RoomsRest}
 
@@ -30,6 +30,10 @@ module _ {D : Type 0} (disk : disks.Ghosts D) (pair : pairs.Ghosts D) (q : Sizes
     -- no records are out of order, and each offer among them is one of its room's pass
     abbrev pub RecordsStand : Type 0
     RecordsStand = (node : ℕ) → OfJournals disk pair q digest given (λ journals. HasBadRecord functions journals node) → ⊥
+
+    -- and its pass accepts each of these offers
+    abbrev pub OffersStand : Type 0
+    OffersStand = (node : ℕ) → OfJournals disk pair q digest given (λ journals. HasRefusedOffer functions journals node) → ⊥
 
     -- no room is unsettled
     abbrev pub RoomsStand : Type 0
@@ -50,12 +54,12 @@ module _ {D : Type 0} (disk : disks.Ghosts D) (pair : pairs.Ghosts D) (q : Sizes
 
   -- ---- the promises
 
-  -- a crash of all nodes leaves journals that stand, whatever the nodes were at
+  -- a crash of all nodes leaves journals that stand, with offers that are accepted, whatever the nodes were at
   abbrev pub LeftJournalsStand : Type 0
   LeftJournalsStand =
       (digest : List ℕ) (functions : ℕ) (logs : ℕ → Log D) (seats : ℕ → NodeSeats) (halted : ℕ → Option Halted) (given : List D)
       → AreLeftOf disk pair q digest functions logs seats halted given
-      → JournalsStand digest functions given × RecordsStand digest functions given
+      → JournalsStand digest functions given × RecordsStand digest functions given × OffersStand digest functions given
 
   -- and where the nodes rest in each room, the rooms stand
   abbrev pub LeftRoomsStand : Type 0

@@ -3,12 +3,17 @@ ghost use Rattle.farm_nodes_crash.specs.Again.{HeardIsLearnedAgain, LearnedAgain
 ghost use Rattle.farm_nodes_crash.specs.Meeting.{NeighboursHearAll, NodesThatHeardRest};
 ghost use Rattle.farm_nodes_crash.specs.Stand.{LeftJournalsStand, LeftRoomsStand, MetNodesRest, OpenedRoomsStand};
 
+use alloc_check::Alloc;
+use constprop_check::ConstProp;
+use cse_check::Cse;
 use durable_pair::Pair;
+use linearize_check::Linearize;
+use offers::one_text;
 use paxos_core_world::quorum::Quorums;
 
 /// What a crash of all nodes of a farm leaves on their pairs of disks; it does nothing.
 pub fn left_by_all<P: Pair>(quorums: Quorums)
-    // A farm that opens over that is refused neither with 401 to 404, but for want of memory or where a device fails,
+    // A farm that opens over that is refused neither with 401 to 404, but for want of memory or where a device fails, nor with 301,
     ensures journals { LeftJournalsStand P.Disk P.Pair.own quorums }
 
     // nor with 510, where the nodes rest in each room,
@@ -26,6 +31,10 @@ pub fn left_by_all<P: Pair>(quorums: Quorums)
     ensures heard { HeardIsLearnedAgain P.Disk P.Pair.own quorums }
 {
     let _count = quorums.nodes();
+    one_text::<ConstProp>();
+    one_text::<Cse>();
+    one_text::<Alloc>();
+    one_text::<Linearize>();
 }
 
 /// What holds of nodes of a farm that have heard of one another in meetings; it does nothing.

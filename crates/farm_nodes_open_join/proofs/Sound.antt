@@ -2,6 +2,7 @@
 use Rattle.std.proofs.Common.{◌≡◌, ◌++◌, ℕ, suc, ◌*◌, length, List, [], ◌∷◌, map, slice_get, All, Option, Some, None, inl, refl, sym, subst}
 use Rattle.std.proofs.lemmas.List.{append-nil}
 use Rattle.std.proofs.lemmas.List.Elements.{All-nil, All-cons, All-head, All-tail}
+use Rattle.durable_model.specs.declared.disk.Disk as disks
 use Rattle.acceptor_log_form.specs.declared.record.Record.{Record}
 use Rattle.acceptor_log_form.specs.Order.{AreInOrder}
 use Rattle.acceptor_log_form.specs.Text.{StandsFor}
@@ -13,12 +14,12 @@ use Rattle.farm_nodes_turn_node.specs.declared.halted.Halted.{Halted}
 use Rattle.farm_nodes_turn_node.specs.Held.{IsJournalOf, IsSoundBy}
 use Rattle.farm_nodes_open_join.specs.Joined.{IsHeld}
 
-module _ {D X1 X2 X3 X4 : Type 0} (texts : Texts X1 X2 X3 X4) (is_honest : D → Type 0) (seen : D → List ℕ) (may_leave : D → List ℕ → Type 0) (log : Log D) (seats : List (Four X1 X2 X3 X4))
-    (held : IsHeld texts is_honest seen may_leave log seats) where
-  journal_of : is_honest log.disk → IsJournalOf texts may_leave log seats None (acknowledged seen log)
+module _ {D X1 X2 X3 X4 : Type 0} (texts : Texts X1 X2 X3 X4) (disk : disks.Ghosts D) (log : Log D) (seats : List (Four X1 X2 X3 X4))
+    (held : IsHeld texts disk log seats) where
+  journal_of : disk.is_honest log.disk → IsJournalOf texts disk log seats None (acknowledged disk.seen log)
   journal_of honest =
-      let rs : List Record = acknowledged seen log in
-      let ready : IsReady is_honest seen may_leave log = held.sound honest held.going in
+      let rs : List Record = acknowledged disk.seen log in
+      let ready : IsReady disk log = held.sound honest held.going in
       let whole : rs ++ [] ≡ rs = append-nil rs in
       record {
         leave = held.leave honest;
@@ -28,30 +29,30 @@ module _ {D X1 X2 X3 X4 : Type 0} (texts : Texts X1 X2 X3 X4) (is_honest : D →
         left = λ c left. inl (subst (λ (bytes : List ℕ). StandsFor log.header rs bytes) (sym (ready.rests.durable c left)) ready.rests.stands);
       }
 
-  pub sound_of : IsSoundBy texts is_honest seen may_leave log seats None
+  pub sound_of : IsSoundBy texts disk log seats None
   sound_of = record {
     journal = held.sound;
     going = λ none. held.going;
     own = held.own;
     of_runs = held.of_runs;
-    upto = λ honest. (acknowledged seen log, journal_of honest, λ none. refl);
+    upto = λ honest. (acknowledged disk.seen log, journal_of honest, λ none. refl);
   }
 
 -- the nodes of these journals and seats
-module _ {N J S D X1 X2 X3 X4 : Type 0} (texts : Texts X1 X2 X3 X4) (is_honest : D → Type 0) (seen : D → List ℕ) (may_leave : D → List ℕ → Type 0)
+module _ {N J S D X1 X2 X3 X4 : Type 0} (texts : Texts X1 X2 X3 X4) (disk : disks.Ghosts D)
     (log_of : J → Log D) (fours : S → List (Four X1 X2 X3 X4)) (log : N → Log D) (seats : N → S) (halted : N → Option Halted) where
   abbrev pub IsAsked : N → Type 0
-  IsAsked n = IsSoundBy texts is_honest seen may_leave (log n) (fours (seats n)) (halted n)
+  IsAsked n = IsSoundBy texts disk (log n) (fours (seats n)) (halted n)
 
-  asked : (n : N) (j : J) (s : S) → IsHeld texts is_honest seen may_leave (log_of j) (fours s) → log n ≡ log_of j → seats n ≡ s → halted n ≡ None → IsAsked n
+  asked : (n : N) (j : J) (s : S) → IsHeld texts disk (log_of j) (fours s) → log n ≡ log_of j → seats n ≡ s → halted n ≡ None → IsAsked n
   asked n j s held of_log of_seats going =
-      let before : IsSoundBy texts is_honest seen may_leave (log_of j) (fours s) None = sound_of texts is_honest seen may_leave (log_of j) (fours s) held in
-      let with_seats : IsSoundBy texts is_honest seen may_leave (log_of j) (fours (seats n)) None = subst (λ x. IsSoundBy texts is_honest seen may_leave (log_of j) (fours x) None) (sym of_seats) before in
-      let with_log : IsSoundBy texts is_honest seen may_leave (log n) (fours (seats n)) None = subst (λ x. IsSoundBy texts is_honest seen may_leave x (fours (seats n)) None) (sym of_log) with_seats in
-      subst (λ x. IsSoundBy texts is_honest seen may_leave (log n) (fours (seats n)) x) (sym going) with_log
+      let before : IsSoundBy texts disk (log_of j) (fours s) None = sound_of texts disk (log_of j) (fours s) held in
+      let with_seats : IsSoundBy texts disk (log_of j) (fours (seats n)) None = subst (λ x. IsSoundBy texts disk (log_of j) (fours x) None) (sym of_seats) before in
+      let with_log : IsSoundBy texts disk (log n) (fours (seats n)) None = subst (λ x. IsSoundBy texts disk x (fours (seats n)) None) (sym of_log) with_seats in
+      subst (λ x. IsSoundBy texts disk (log n) (fours (seats n)) x) (sym going) with_log
 
   pub all_asked : (ns : List N) (js : List J) (ss : List S) → map log ns ≡ map log_of js → map seats ns ≡ ss → All (λ n. halted n ≡ None) ns
-      → ((i : ℕ) (j : J) (s : S) → slice_get js i ≡ Some j → slice_get ss i ≡ Some s → IsHeld texts is_honest seen may_leave (log_of j) (fours s)) → All IsAsked ns
+      → ((i : ℕ) (j : J) (s : S) → slice_get js i ≡ Some j → slice_get ss i ≡ Some s → IsHeld texts disk (log_of j) (fours s)) → All IsAsked ns
   all_asked [] js ss logs sets going held = All-nil IsAsked
   all_asked (n ∷ ns) [] ss logs sets going held = absurd (cc)
   all_asked (n ∷ ns) (j ∷ js) [] logs sets going held = absurd (cc)

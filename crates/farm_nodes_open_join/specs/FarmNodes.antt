@@ -12,7 +12,7 @@ use Rattle.farm_nodes_turn_node.specs.declared.farm_node.FarmNode.{FarmNode}
 module _ {D O H : Type 0} {h : naming.Ghosts H} where
   -- the node's journal stands for what its seats keep
   abbrev pub HasSoundJournal : disks.Ghosts D → FarmNode D O H h → Type 0
-  HasSoundJournal disk node = IsSoundNode disk.is_honest disk.seen disk.may_leave node.log (fours_of node.seats.items) node.halted
+  HasSoundJournal disk node = IsSoundNode disk node.log (fours_of node.seats.items) node.halted
 
   -- what all of them compile is this program
   abbrev pub AllCompile : Program FunctionData → List (FarmNode D O H h) → Type 0

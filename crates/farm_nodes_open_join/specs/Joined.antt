@@ -16,25 +16,25 @@ use Rattle.farm_nodes_turn_node.specs.Texts.{Texts, pass_texts}
 
 -- The journal goes on, and the seats are its node's, each of its run; what it has acknowledged stands for what they keep and tells their offers, names
 -- no room but theirs, and is in order.
-pub record IsHeld {D X1 X2 X3 X4 : Type 0} (texts : Texts X1 X2 X3 X4) (is_honest : D → Type 0) (seen : D → List ℕ) (may_leave : D → List ℕ → Type 0)
+pub record IsHeld {D X1 X2 X3 X4 : Type 0} (texts : Texts X1 X2 X3 X4) (disk : disks.Ghosts D)
     (log : Log D) (seats : List (Four X1 X2 X3 X4)) : Type 0 where
-  pub sound : IsSound is_honest seen may_leave log
+  pub sound : IsSound disk log
   pub going : log.going ≡ true
   pub own : AreSeatsOf log.header seats
   pub of_runs : AreOfRuns seats
-  pub leave : is_honest log.disk → Leave texts seats (acknowledged seen log)
-  pub named : is_honest log.disk → AreOf (4 * length seats) (acknowledged seen log)
-  pub in_order : is_honest log.disk → AreInOrder log.header.nodes log.header.node (4 * length seats) (acknowledged seen log)
-  pub unproposed : is_honest log.disk → AreUnproposed seats (acknowledged seen log)
+  pub leave : disk.is_honest log.disk → Leave texts seats (acknowledged disk.seen log)
+  pub named : disk.is_honest log.disk → AreOf (4 * length seats) (acknowledged disk.seen log)
+  pub in_order : disk.is_honest log.disk → AreInOrder log.header.nodes log.header.node (4 * length seats) (acknowledged disk.seen log)
+  pub unproposed : disk.is_honest log.disk → AreUnproposed seats (acknowledged disk.seen log)
 
 -- so it is of each node's journal and seats
-pub record AreHeld {J S D X1 X2 X3 X4 : Type 0} (texts : Texts X1 X2 X3 X4) (is_honest : D → Type 0) (seen : D → List ℕ) (may_leave : D → List ℕ → Type 0)
+pub record AreHeld {J S D X1 X2 X3 X4 : Type 0} (texts : Texts X1 X2 X3 X4) (disk : disks.Ghosts D)
     (log_of : J → Log D) (fours : S → List (Four X1 X2 X3 X4)) (journals : List J) (seats : List S) : Type 0 where
   pub count : length seats ≡ length journals
   pub each : (i : ℕ) (j : J) (s : S) → slice_get journals i ≡ Some j → slice_get seats i ≡ Some s
-      → IsHeld texts is_honest seen may_leave (log_of j) (fours s)
+      → IsHeld texts disk (log_of j) (fours s)
 
 -- the same of journals beside their records, with the texts of the passes' offers as they are
 abbrev pub AreHeldOn : {D H : Type 0} {h : naming.Ghosts H} → disks.Ghosts D → List (Log D × Vec Record) → List (Vec (NumberedSeat H h)) → Type 0
-AreHeldOn {D} {H} {h} disk journals seats = AreHeld pass_texts disk.is_honest disk.seen disk.may_leave
+AreHeldOn {D} {H} {h} disk journals seats = AreHeld pass_texts disk
     (λ (j : Log D × Vec Record). j.0) (λ (s : Vec (NumberedSeat H h)). fours_of s.items) journals seats

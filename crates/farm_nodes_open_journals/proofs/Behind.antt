@@ -1,7 +1,7 @@
 -- What an opening says once the old disk was read, and the journal's own call behind that.
 use Rattle.std.proofs.Common.{◌≡◌, ◌≢◌, ◌⊎◌, inl, inr, ⊎_elim, ℕ, ◌≤◌, List, [], ◌∷◌, true, refl, sym, ap, ◌∙◌, subst, arith}
 use Rattle.std.specs.Prelude.{◌↔◌, get_or}
-use Rattle.durable_model.specs.Honest.{Only, Risen, Unchanged, risen_within}
+use Rattle.durable_model.specs.Honest.{Only, Risen, Unchanged}
 use Rattle.durable_model.specs.Moments.{LeavesOnly, composed}
 use Rattle.durable_model_writes.specs.Writes.{overwritten}
 use Rattle.durable_model.specs.declared.disk.Disk as disks
@@ -18,10 +18,11 @@ use Rattle.acceptor_log.specs.declared.log.Log.{Log}
 use Rattle.acceptor_log_old.specs.Migrated.{migrated}
 use Rattle.acceptor_log_migrating.specs.Stands.{CanMigrate, IsMigrating, IsNotMigrated}
 use Rattle.acceptor_log_migrating.specs.Moving.{RefusalKeepsOld}
-use Rattle.farm_nodes_open_old.specs.OnPairs.{HasOld, HasNone, HasNew, MayShow, IsSame, IsUntouched}
-use Rattle.farm_nodes_open_journals.specs.Journals.{MayStay, MayTurn, IsOpened, IsRefused, IsMigrated, IsListed, WasMigrated}
+use Rattle.farm_nodes_open_old.specs.OnPairs.{HasNone, HasNew, MayShow, IsSame, IsUntouched}
+use Rattle.farm_nodes_open_journals.specs.WhichJournal.{New, Old}
+use Rattle.farm_nodes_open_journals.specs.Journals.{MayStay, MayTurn, IsOpened, IsRefused, IsListed, WasMigrated}
 use Rattle.farm_nodes_open_old.proofs.Shows.{shows_first, shows_then}
-use Rattle.farm_nodes_open_journals.proofs.InFront.{both_ways}
+use Rattle.farm_nodes_open_journals.proofs.ByJournal.{leaves_refused, opened_over}
 
 module _ {P : Type 0} (disk : disks.Ghosts P) (pair : pairs.Ghosts P) where
   module _ (p m : P) (first : LeavesOnly disk.moment pair.both_since p m (Both pair.new_may pair.old_may p)) (h : Header) (old : List Record) where
@@ -66,9 +67,8 @@ module _ {P : Type 0} (disk : disks.Ghosts P) (pair : pairs.Ghosts P) where
       whole = λ is. whole.1 is;
       refused = λ is memory device. absurd (memory (only device));
       unwritten = λ is device. inl (untouched is);
-      any_moment = λ is new. shows_first disk pair shown of_both p m (first is);
-      turning = λ old is counts can. turns_first p m (first is) h old;
-      stays = λ is counts memory device. absurd (memory (only device));
+      any_moment = λ is. leaves_refused disk pair h p m fault (λ new. shows_first disk pair shown of_both p m (first is)) (λ counts old can. turns_first p m (first is) h old)
+          (λ counts memory device. absurd (memory (only device)));
       failed = failed;
       unfailed = unfailed;
     }
@@ -104,7 +104,7 @@ module _ {P : Type 0} (disk : disks.Ghosts P) (pair : pairs.Ghosts P) where
             any_moment = moments log.disk second is new;
           }
 
-      pub opened_new : IsSound disk.is_honest disk.seen disk.may_leave log → (log.going ≡ true) × (log.header ≡ h) → (disk.is_honest log.disk ↔ disk.is_honest m)
+      pub opened_new : IsSound disk log → (log.going ≡ true) × (log.header ≡ h) → (disk.is_honest log.disk ↔ disk.is_honest m)
           → (disk.is_honest m → acknowledged disk.seen log ≡ rs) → (pair.is_whole p → HasNone disk pair p → rs ≡ []) → (disk.is_honest m → X → StandsFor h rs (disk.seen m))
           → (disk.is_honest m → X → Unchanged disk.seen disk.may_leave m log.disk) → (disk.is_honest m → X → LeavesOnly disk.moment disk.left_since m log.disk (disk.may_leave m))
           → disk.faults log.disk ≡ disk.faults m → IsOpened disk pair h p log rs
@@ -114,9 +114,7 @@ module _ {P : Type 0} (disk : disks.Ghosts P) (pair : pairs.Ghosts P) where
         header_is = ok.1;
         honest = (λ now. whole.0 (honest_whole m (as_honest.0 now)), λ is. as_honest.1 (honest is));
         acknowledged_are = λ is. acknowledged_are (honest is);
-        begun = begun;
-        listed = λ is new. listed stands unchanged second is new;
-        moved = λ is counts. absurd (counts (spent is));
+        over = λ is. opened_over disk pair h p log rs (begun is) (λ new. listed stands unchanged second is new) (λ counts. absurd (counts (spent is)));
         unfailed = unfailed ∙ faults;
       }
 
@@ -126,16 +124,15 @@ module _ {P : Type 0} (disk : disks.Ghosts P) (pair : pairs.Ghosts P) where
         → (fault ≡ Device → Risen (disk.faults m) (disk.faults back)) → (fault ≢ Device → disk.faults back ≡ disk.faults m) → IsRefused disk pair h p back fault
     refused_new back fault as_honest some cause unwritten second failed unfailed = record {
       whole = λ is. honest_whole back (as_honest.1 (honest is));
-      refused = λ is memory device. inr ((spent is, some is memory device), subst (λ (bytes : List ℕ). HasFault h bytes fault) (same is).new_same (cause (honest is) memory device));
+      refused = λ is memory device. (New, (spent is, some is memory device), subst (λ (bytes : List ℕ). HasFault h bytes fault) (same is).new_same (cause (honest is) memory device));
       unwritten = λ is device. let now = as_honest.1 (honest is) in
           inl (record {
             new_same = unwritten (honest is) device ∙ (same is).new_same;
             old_same = λ counts. absurd (counts (spent is));
             spent = λ was. honest_spent back (pair.old_seen back) now (both_as_seen back (honest_whole back now)).1;
           });
-      any_moment = λ is new. moments back second is new;
-      turning = λ old is counts can. absurd (counts (spent is));
-      stays = λ is counts memory device. absurd (counts (spent is));
+      any_moment = λ is. leaves_refused disk pair h p back fault (λ new. moments back second is new) (λ counts old can. absurd (counts (spent is)))
+          (λ counts memory device. absurd (counts (spent is)));
       failed = λ device. risen_from (disk.faults p) (disk.faults m) (disk.faults back) faults (failed device);
       unfailed = λ device. unfailed device ∙ faults;
     }
@@ -159,7 +156,7 @@ module _ {P : Type 0} (disk : disks.Ghosts P) (pair : pairs.Ghosts P) where
         → LeavesOnly disk.moment pair.both_since p n (MayTurn disk pair h rs p)
     turning n second is rs can = turns_then p m (first is) h rs n (second (whole.1 is) (synced_there is) rs (can_of is rs can)) (same is).old_same
 
-    pub opened_old : (log : Log P) (rs : List Record) → IsSound disk.is_honest disk.seen disk.may_leave log → (log.going ≡ true) × (log.header ≡ h)
+    pub opened_old : (log : Log P) (rs : List Record) → IsSound disk log → (log.going ≡ true) × (log.header ≡ h)
         → (pair.is_whole log.disk ↔ pair.is_whole m) → (pair.is_whole m → disk.is_honest log.disk) → (pair.is_whole m → acknowledged disk.seen log ≡ rs)
         → (pair.is_whole m → (old : List Record) × CanMigrate h old (pair.old_seen m) × (rs ≡ migrated old))
         → (pair.is_whole m → pair.old_seen log.disk ≡ overwritten (pair.old_seen m) 0 (0 ∷ []))
@@ -172,17 +169,17 @@ module _ {P : Type 0} (disk : disks.Ghosts P) (pair : pairs.Ghosts P) where
       header_is = ok.1;
       honest = (λ now. whole.0 (as_whole.0 (honest_whole log.disk now)), λ is. honest (whole.1 is));
       acknowledged_are = λ is. acknowledged_are (whole.1 is);
-      begun = λ is none. absurd (omega (arith, counts is, ap (λ (bytes : List ℕ). get_or bytes 0 0) none.1));
-      listed = λ is new. absurd (counts_still is new.0);
-      moved = λ is old. let found = moved (whole.1 is) in
+      over = λ is.
+          let found = moved (whole.1 is) in
           let can = subst (λ (bytes : List ℕ). CanMigrate h found.0 bytes) (same is).old_same found.1 in
-          record {
+          opened_over disk pair h p log rs (λ none. absurd (omega (arith, counts is, ap (λ (bytes : List ℕ). get_or bytes 0 0) none.1))) (λ new. absurd (counts_still is new.0))
+          (λ old. record {
             old = found.0;
             can = can;
             records_are = found.2;
             turned = turned (whole.1 is) ∙ ap (λ (bytes : List ℕ). overwritten bytes 0 (0 ∷ [])) (same is).old_same;
             any_moment = turning log.disk second is found.0 can;
-          };
+          });
       unfailed = unfailed ∙ faults;
     }
 
@@ -210,11 +207,10 @@ module _ {P : Type 0} (disk : disks.Ghosts P) (pair : pairs.Ghosts P) where
         → (fault ≡ Device → Risen (disk.faults m) (disk.faults back)) → (fault ≢ Device → disk.faults back ≡ disk.faults m) → IsRefused disk pair h p back fault
     refused_old back fault as_whole cause unwritten second stay failed unfailed = record {
       whole = λ is. as_whole.1 (whole.1 is);
-      refused = λ is memory device. inl (counts_still is, subst (λ (bytes : List ℕ). IsNotMigrated h bytes fault) (same is).old_same (cause (whole.1 is) memory device));
+      refused = λ is memory device. (Old, counts_still is, subst (λ (bytes : List ℕ). IsNotMigrated h bytes fault) (same is).old_same (cause (whole.1 is) memory device));
       unwritten = λ is device. ⊎_elim (λ are. inl (untouched_old back is are)) (λ was. inr (migrated_old back is was)) (unwritten (whole.1 is) device);
-      any_moment = λ is new. absurd (counts_still is new.0);
-      turning = λ old is still can. turning back second is old can;
-      stays = λ is still memory device. stays_then p m (first is) back (stay (whole.1 is) (synced_there is) memory device) (same is).old_same;
+      any_moment = λ is. leaves_refused disk pair h p back fault (λ new. absurd (counts_still is new.0)) (λ still old can. turning back second is old can)
+          (λ still memory device. stays_then p m (first is) back (stay (whole.1 is) (synced_there is) memory device) (same is).old_same);
       failed = λ device. risen_from (disk.faults p) (disk.faults m) (disk.faults back) faults (failed device);
       unfailed = λ device. unfailed device ∙ faults;
     }

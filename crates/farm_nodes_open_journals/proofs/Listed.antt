@@ -18,7 +18,7 @@ use Rattle.acceptor_log_migrating.specs.Stands.{CanMigrate}
 use Rattle.farm_nodes_open_journals.specs.Journals.{WasMigrated}
 
 module _ {P : Type 0} (disk : disks.Ghosts P) (pair : pairs.Ghosts P) where
-  pub was_migrated : (h : Header) (p : P) (log : Log P) (rs : List Record) → log.header ≡ h → IsReady disk.is_honest disk.seen disk.may_leave log
+  pub was_migrated : (h : Header) (p : P) (log : Log P) (rs : List Record) → log.header ≡ h → IsReady disk log
       → CanMigrate h rs (pair.old_seen p) → acknowledged disk.seen log ≡ migrated rs → pair.old_seen log.disk ≡ overwritten (pair.old_seen p) 0 (0 ∷ []) → WasMigrated disk pair h p log.disk
   was_migrated h p log rs header ready can are turned = record {
     old = rs;
@@ -27,35 +27,35 @@ module _ {P : Type 0} (disk : disks.Ghosts P) (pair : pairs.Ghosts P) where
     turned = turned;
   }
 
-module _ {D : Type 0} (is_honest : D → Type 0) (seen : D → List ℕ) (may_leave : D → List ℕ → Type 0) (h : Header) (log : Log D) (from : D) (header : h ≡ log.header) (there : from ≡ log.disk)
-    (ready : IsReady is_honest seen may_leave log) where
-  still_honest : is_honest from
-  still_honest = subst is_honest (sym there) ready.rests.honest
+module _ {D : Type 0} (disk : disks.Ghosts D) (h : Header) (log : Log D) (from : D) (header : h ≡ log.header) (there : from ≡ log.disk)
+    (ready : IsReady disk log) where
+  still_honest : disk.is_honest from
+  still_honest = subst disk.is_honest (sym there) ready.rests.honest
 
-  still_stands : StandsFor h (acknowledged seen log) (seen from)
+  still_stands : StandsFor h (acknowledged disk.seen log) (disk.seen from)
   still_stands =
-      subst (λ (d : D). StandsFor h (acknowledged seen log) (seen d)) (sym there)
-      (subst (λ (g : Header). StandsFor g (acknowledged seen log) (seen log.disk)) (sym header) ready.rests.stands)
+      subst (λ (d : D). StandsFor h (acknowledged disk.seen log) (disk.seen d)) (sym there)
+      (subst (λ (g : Header). StandsFor g (acknowledged disk.seen log) (disk.seen log.disk)) (sym header) ready.rests.stands)
 
   -- it rests on what was read
-  pub rests_still : (rs : List Record) (gate : ℕ) → (is_honest from → StandsFor h rs (seen from)) → gate ≡ header_size + length (blocks rs) → Rests is_honest seen may_leave h rs gate from
+  pub rests_still : (rs : List Record) (gate : ℕ) → (disk.is_honest from → StandsFor h rs (disk.seen from)) → gate ≡ header_size + length (blocks rs) → Rests disk h rs gate from
   rests_still rs gate stands at_gate = record {
     honest = still_honest;
     stands = stands still_honest;
     at_gate = at_gate;
-    durable = λ c left. ready.rests.durable c (subst (λ (d : D). may_leave d c) there left) ∙ ap seen (sym there);
+    durable = λ c left. ready.rests.durable c (subst (λ (d : D). disk.may_leave d c) there left) ∙ ap disk.seen (sym there);
   }
 
   -- which is what was acknowledged
-  pub records_again : ((h : Header) (rs : List Record) (bytes : List ℕ) → StandsFor h rs bytes → listed h bytes ≡ Some rs) → (rs : List Record) → (is_honest from → StandsFor h rs (seen from))
-      → rs ≡ acknowledged seen log
+  pub records_again : ((h : Header) (rs : List Record) (bytes : List ℕ) → StandsFor h rs bytes → listed h bytes ≡ Some rs) → (rs : List Record) → (disk.is_honest from → StandsFor h rs (disk.seen from))
+      → rs ≡ acknowledged disk.seen log
   records_again one rs stands =
-      let both : Some rs ≡ Some (acknowledged seen log) = sym (one h rs (seen from) (stands still_honest)) ∙ one h (acknowledged seen log) (seen from) still_stands in
+      let both : Some rs ≡ Some (acknowledged disk.seen log) = sym (one h rs (disk.seen from) (stands still_honest)) ∙ one h (acknowledged disk.seen log) (disk.seen from) still_stands in
       cc
 
   -- and has no fault
-  pub sound_again : ((h : Header) (rs : List Record) (bytes : List ℕ) (e : LogError) → StandsFor h rs bytes → HasFault h bytes e → ⊥) → (e : LogError) → (is_honest from → HasFault h (seen from) e) → ⊥
-  sound_again none e bad = none h (acknowledged seen log) (seen from) e still_stands (bad still_honest)
+  pub sound_again : ((h : Header) (rs : List Record) (bytes : List ℕ) (e : LogError) → StandsFor h rs bytes → HasFault h bytes e → ⊥) → (e : LogError) → (disk.is_honest from → HasFault h (disk.seen from) e) → ⊥
+  sound_again none e bad = none h (acknowledged disk.seen log) (disk.seen from) e still_stands (bad still_honest)
 
 -- a refusal that is none other is one of memory
 pub memory_only : (e : LogError) → ((e ≢ fault.NoMemory) → ⊥) → e ≡ fault.NoMemory

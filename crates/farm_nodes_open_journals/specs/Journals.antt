@@ -20,7 +20,9 @@ use Rattle.acceptor_log_migrating.specs.Moving.{IsTurned}
 use Rattle.farm_nodes_open_journals.specs.declared.refused.RefusedPair.{RefusedPair}
 use Rattle.std.specs.Vec.Iter.{into_iter_items}
 use Rattle.paxos_core_world.specs.Quorum.{Sizes}
-use Rattle.farm_nodes_open_old.specs.OnPairs.{HasOld, HasNone, HasNew, MayShow, IsShown, IsUntouched}
+use Rattle.farm_nodes_open_old.specs.OnPairs.{MayShow, IsShown, IsUntouched}
+use Rattle.farm_nodes_open_journals.specs.WhichJournal.{WhichJournal, CountsOn}
+use Rattle.farm_nodes_open_journals.specs.WhichJournal as which
 
 -- whose journal it is
 abbrev pub header_of : Sizes → List ℕ → ℕ → Header
@@ -53,24 +55,32 @@ module _ {P : Type 0} (disk : disks.Ghosts P) (pair : pairs.Ghosts P) where
     pub shown : IsShown disk pair given log.disk
     pub any_moment : LeavesOnly disk.moment disk.left_since given log.disk (MayShow disk pair given)
 
-  -- It is the journal on the pair that was given, as the pair stands for it; where that has none it got one without
-  -- records. All of it holds of a pair whose disks are both honest, and just such a one is honest as a disk afterwards.
+  -- what is listed, by the journal that counts: no record where none does, those of the new one, or what migration makes of the old one's
+  abbrev pub IsOpenedOver : Header → P → Log P → List Record → WhichJournal → Type 0
+  IsOpenedOver header given log records which.None = records ≡ []
+  IsOpenedOver header given log records which.New = IsListed header given log records
+  IsOpenedOver header given log records which.Old = IsMigrated header given log records
+
+  -- It is the journal on the pair that was given, by the one that counted there. All of it holds of a pair whose disks are
+  -- both honest, and just such a one is honest as a disk afterwards.
   pub record IsOpened (header : Header) (given : P) (log : Log P) (records : List Record) : Type 0 where
-    pub sound : IsSound disk.is_honest disk.seen disk.may_leave log
+    pub sound : IsSound disk log
     pub going : log.going ≡ true
     pub header_is : log.header ≡ header
     pub honest : disk.is_honest log.disk ↔ pair.is_whole given
     pub acknowledged_are : pair.is_whole given → acknowledged disk.seen log ≡ records
-    pub begun : pair.is_whole given → HasNone disk pair given → records ≡ []
-    pub listed : pair.is_whole given → HasNew disk pair given → IsListed header given log records
-    pub moved : pair.is_whole given → HasOld disk pair given → IsMigrated header given log records
+    pub over : pair.is_whole given → (what : WhichJournal) → CountsOn disk pair what given → IsOpenedOver header given log records what
     pub unfailed : disk.faults log.disk ≡ disk.faults given
 
-  -- why a journal is refused: the old one can't be migrated; or the new one has the fault
+  -- why a journal is refused: the new one has the fault; or the old one can't be migrated
+  abbrev pub IsDueTo : Header → P → LogError → WhichJournal → Type 0
+  IsDueTo header given fault which.None = ⊥
+  IsDueTo header given fault which.New = HasFault header (disk.seen given) fault
+  IsDueTo header given fault which.Old = IsNotMigrated header (pair.old_seen given) fault
+
+  -- it is that which counts
   abbrev pub IsDueToJournal : Header → P → LogError → Type 0
-  IsDueToJournal header given fault =
-      (HasOld disk pair given × IsNotMigrated header (pair.old_seen given) fault)
-      ⊎ (HasNew disk pair given × HasFault header (disk.seen given) fault)
+  IsDueToJournal header given fault = (what : WhichJournal) × CountsOn disk pair what given × IsDueTo header given fault what
 
   -- the old journal was migrated before it was refused
   pub record WasMigrated (header : Header) (given back : P) : Type 0 where
@@ -79,21 +89,24 @@ module _ {P : Type 0} (disk : disks.Ghosts P) (pair : pairs.Ghosts P) where
     pub stands : StandsFor header (migrated old) (disk.seen back)
     pub turned : IsTurned pair given back
 
+  -- What a crash at any moment leaves, by the journal that counts: of the new one what it might have left before; one of the two where
+  -- the old one can be migrated, and the old one where it is refused for its own sake.
+  abbrev pub LeavesRefused : Header → (given back : P) → LogError → WhichJournal → Type 0
+  LeavesRefused header given back fault which.None = Unit {0}
+  LeavesRefused header given back fault which.New = LeavesOnly disk.moment disk.left_since given back (MayShow disk pair given)
+  LeavesRefused header given back fault which.Old =
+      ((old : List Record) → CanMigrate header old (pair.old_seen given)
+      → LeavesOnly disk.moment pair.both_since given back (MayTurn header old given))
+      × (fault ≢ NoMemory → fault ≢ Device → LeavesOnly disk.moment pair.both_since given back (MayStay given))
+
   -- It is the pair that was given, and the journal on it has the fault; or memory or the device failed. Its old journal
-  -- may have been migrated; but for that nothing was written, where the device did not fail. One that is refused for its own sake stays:
-  -- a crash at any moment leaves it.
+  -- may have been migrated; but for that nothing was written, where the device did not fail.
   pub record IsRefused (header : Header) (given back : P) (fault : LogError) : Type 0 where
     pub whole : pair.is_whole given → pair.is_whole back
     pub refused : pair.is_whole given → fault ≢ NoMemory → fault ≢ Device → IsDueToJournal header given fault
     pub unwritten : pair.is_whole given → fault ≢ Device
         → IsUntouched disk pair given back ⊎ WasMigrated header given back
-    pub any_moment : pair.is_whole given → HasNew disk pair given
-        → LeavesOnly disk.moment disk.left_since given back (MayShow disk pair given)
-    pub turning : (old : List Record) → pair.is_whole given → HasOld disk pair given
-        → CanMigrate header old (pair.old_seen given)
-        → LeavesOnly disk.moment pair.both_since given back (MayTurn header old given)
-    pub stays : pair.is_whole given → HasOld disk pair given → fault ≢ NoMemory → fault ≢ Device
-        → LeavesOnly disk.moment pair.both_since given back (MayStay given)
+    pub any_moment : pair.is_whole given → (what : WhichJournal) → CountsOn disk pair what given → LeavesRefused header given back fault what
     pub failed : fault ≡ Device → Risen (disk.faults given) (disk.faults back)
     pub unfailed : fault ≢ Device → disk.faults back ≡ disk.faults given
 

@@ -1,2 +1,3 @@
+pub mod WhichJournal
 pub mod Journals
 pub mod Steps

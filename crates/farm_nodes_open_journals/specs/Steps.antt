@@ -11,7 +11,6 @@ use Rattle.acceptor_log_form.specs.declared.errors.LogError.{LogError}
 use Rattle.acceptor_log_form.specs.declared.errors.LogError.TheVariants.{Device, NoMemory}
 use Rattle.acceptor_log_form.specs.declared.header.Header.{Header}
 use Rattle.acceptor_log_form.specs.declared.record.Record.{Record}
-use Rattle.acceptor_log.specs.Acknowledged.{IsReady}
 use Rattle.acceptor_log.specs.declared.log.Log.{Log}
 use Rattle.acceptor_log_old.specs.Migrated.{migrated}
 use Rattle.acceptor_log_migrating.specs.Stands.{CanMigrate}
@@ -33,10 +32,6 @@ IsFaultOf header bytes e = e ≢ NoMemory → e ≢ Device → (bytes ≢ []) ×
 -- a crash at any moment on the way leaves what one might have left before
 abbrev pub LeavesNothingElse : {D : Type 0} → disks.Ghosts D → D → D → Type 0
 LeavesNothingElse disk given now = LeavesOnly disk.moment disk.left_since given now (disk.may_leave given)
-
--- the journal may go on: its disk rests on what it has acknowledged
-abbrev pub IsReadyOn : {D : Type 0} → disks.Ghosts D → Log D → Type 0
-IsReadyOn disk log = IsReady disk.is_honest disk.seen disk.may_leave log
 
 -- the records are what migration makes of the old journal's
 abbrev pub AreMigrated : {P : Type 0} → pairs.Ghosts P → Header → P → List Record → Type 0

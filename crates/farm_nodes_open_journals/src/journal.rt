@@ -17,7 +17,7 @@ pub(crate) fn open_journal<D: Disk>(
     disk: D,
     header: &Header,
 ) -> Result<(Log<D>, Vec<Record>), (D, LogError)>
-    ensures sound { IfOk result (λ opened. IsSound D.is_honest D.seen D.may_leave opened.0) }
+    ensures sound { IfOk result (λ opened. IsSound D.Disk opened.0) }
     ensures ok { IfOk result (λ opened. (opened.0.going ≡ true) × (opened.0.header ≡ header.now)) }
     ensures honest { D.is_honest (opened_disk result) ↔ D.is_honest disk }
     ensures acknowledged { D.is_honest disk

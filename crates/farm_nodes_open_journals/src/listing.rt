@@ -4,8 +4,7 @@ ghost use Rattle.std.specs.Prelude.{◌≡◌, ◌≢◌, ◌≤◌, ◌+◌, tr
 ghost use Rattle.acceptor_log_form.specs.Text.{StandsFor, blocks, header_size};
 ghost use Rattle.acceptor_log_form.specs.Fault.{HasFault};
 ghost use Rattle.acceptor_log_form.specs.declared.errors.LogError.TheVariants.{NoMemory};
-ghost use Rattle.acceptor_log.specs.Acknowledged.{acknowledged};
-ghost use Rattle.farm_nodes_open_journals.specs.Steps.{IsReadyOn};
+ghost use Rattle.acceptor_log.specs.Acknowledged.{acknowledged, IsReady};
 
 use acceptor_log::{Listed, Log, read};
 use acceptor_log_form::{Header, LogError, Record, no_fault, one_list};
@@ -19,10 +18,10 @@ pub(crate) fn list<P: Pair>(
 ) -> Result<(Log<P>, Vec<Record>), (P, LogError)>
     ensures ok { IfOk result (λ listed. (listed.0.going ≡ true) × (listed.0.header ≡ log.header)) }
     ensures same { MatchResult result (λ listed. listed.0.disk ≡ log.disk) (λ refused. refused.0 ≡ log.disk) }
-    ensures ready { IsReadyOn P.Disk log → IfOk result (λ listed. IsReadyOn P.Disk listed.0) }
-    ensures acknowledged { IsReadyOn P.Disk log → IfOk result (λ it. acknowledged P.seen it.0 ≡ it.1.items) }
-    ensures records { IsReadyOn P.Disk log → IfOk result (λ listed. listed.1.items ≡ acknowledged P.seen log) }
-    ensures faults { IsReadyOn P.Disk log → IfErr result (λ refused. refused.1 ≡ LogError.NoMemory) }
+    ensures ready { IsReady P.Disk log → IfOk result (λ listed. IsReady P.Disk listed.0) }
+    ensures acknowledged { IsReady P.Disk log → IfOk result (λ it. acknowledged P.seen it.0 ≡ it.1.items) }
+    ensures records { IsReady P.Disk log → IfOk result (λ listed. listed.1.items ≡ acknowledged P.seen log) }
+    ensures faults { IsReady P.Disk log → IfErr result (λ refused. refused.1 ≡ LogError.NoMemory) }
     ensures never { IfErr result (λ refused. refused.1 ≢ LogError.Device) }
 {
     one_list();

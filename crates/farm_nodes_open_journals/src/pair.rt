@@ -53,7 +53,7 @@ fn open_old<P: Pair>(
     requires { 0 < header.now.nodes }
     ensures ok { IfOk result (λ opened. (opened.0.going ≡ true) × (opened.0.header ≡ header.now)) }
     ensures whole { P.is_whole (opened_disk result) ↔ P.is_whole pair }
-    ensures sound { IfOk result (λ opened. IsSound P.is_honest P.seen P.may_leave opened.0) }
+    ensures sound { IfOk result (λ opened. IsSound P.Disk opened.0) }
     ensures honest { P.is_whole pair → IfOk result (λ opened. P.is_honest opened.0.disk) }
     ensures acknowledged { P.is_whole pair
         → IfOk result (λ opened. acknowledged P.seen opened.0 ≡ opened.1.items) }

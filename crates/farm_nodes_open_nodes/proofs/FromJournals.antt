@@ -74,7 +74,7 @@ module _ {D : Type 0} (disk : disks.Ghosts D) (pair : pairs.Ghosts D) (q : Sizes
         let j : (j : Log D × Vec Record) × (slice_get journals i ≡ Some j) × (j.0 ≡ log) = log_at i log at in
         told (λ (n : ℕ) (rs : List Record). AreOffers from to by which functions rs o.items) i log j.0 j.1 j.2 (seated.are_offers.each i j.0 o j.1 there)
 
-    open_in : AreOpenIn disk.is_honest disk.seen q functions logs from to by which kept show rows
+    open_in : AreOpenIn disk q functions logs from to by which kept show rows
     open_in = record {
       offers = seated.offers;
       are_offers = record { count = seated.are_offers.count ∙ sym as_many; each = offers_at };
@@ -87,7 +87,7 @@ module _ {D : Type 0} (disk : disks.Ghosts D) (pair : pairs.Ghosts D) (q : Sizes
         let j : (j : Log D × Vec Record) × (slice_get journals i ≡ Some j) × (j.0 ≡ log) = log_at i log at in
         told (λ (n : ℕ) (rs : List Record). AreKept functions n i rs k.items) i log j.0 j.1 j.2 (seated.are_kept.each i j.0 k j.1 there)
 
-    pub open_from : AreOpenFromJournals disk.is_honest disk.seen q functions logs rows
+    pub open_from : AreOpenFromJournals disk q functions logs rows
     open_from = record {
       kept = seated.kept;
       are_kept = record { count = seated.are_kept.count ∙ sym as_many; each = kept_at };

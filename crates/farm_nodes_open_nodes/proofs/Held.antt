@@ -179,7 +179,7 @@ module _ {J H : Type 0} {h : naming.Ghosts H} (q : Sizes) (functions : ℕ) (jou
 -- so it is of all nodes
 module _ {D H : Type 0} {h : naming.Ghosts H} (disk : disks.Ghosts D) (pair : pairs.Ghosts D) (q : Sizes) (digest : List ℕ) (given : List D) (functions : ℕ) (journals : List (Log D × Vec Record)) (seats : List (Vec (NumberedSeat H h)))
     (opened : AreOpened disk pair q digest given (length given) journals) (sizes : AreQuorums q) (seated : AreSeated q functions journals (rows_of seats)) (nodes : length given ≡ q.nodes) where
-  held_at : (i : ℕ) (j : Log D × Vec Record) (s : Vec (NumberedSeat H h)) → slice_get journals i ≡ Some j → slice_get seats i ≡ Some s → IsHeld pass_texts disk.is_honest disk.seen disk.may_leave j.0 (fours_of s.items)
+  held_at : (i : ℕ) (j : Log D × Vec Record) (s : Vec (NumberedSeat H h)) → slice_get journals i ≡ Some j → slice_get seats i ≡ Some s → IsHeld pass_texts disk j.0 (fours_of s.items)
   held_at i j s at here =
       let within : i < length journals = slice_get_within journals i j at in
       let d : (d : D) × (slice_get given i ≡ Some d) = found_at given i (omega (arith, within, opened.size)) in
@@ -200,5 +200,5 @@ module _ {D H : Type 0} {h : naming.Ghosts H} (disk : disks.Ghosts D) (pair : pa
         named = λ honest. subst (λ (rs : List Record). AreOf (4 * length (fours_of s.items)) rs) (sym (same honest)) (named_of q functions journals (rows_of seats) sizes seated i s.items k.0 j row_at k.1 at);
       }
 
-  pub held : AreHeld pass_texts disk.is_honest disk.seen disk.may_leave (λ (j : Log D × Vec Record). j.0) (λ (s : Vec (NumberedSeat H h)). fours_of s.items) journals seats
+  pub held : AreHeld pass_texts disk (λ (j : Log D × Vec Record). j.0) (λ (s : Vec (NumberedSeat H h)). fours_of s.items) journals seats
   held = record { count = sym (length-map seats (λ (v : Vec (NumberedSeat H h)). v.items)) ∙ seated.count; each = held_at }

@@ -18,4 +18,4 @@ module _ {D O H : Type 0} {h : naming.Ghosts H} (disk : disks.Ghosts D) where
   -- the rooms of the program's functions are open from what the journals have acknowledged
   abbrev pub HaveOpenRooms : Sizes → Program FunctionData → List (FarmNode D O H h) → Type 0
   HaveOpenRooms q program nodes =
-      AreOpenFromJournals disk.is_honest disk.seen q (length program.functions) (map (λ n. n.log) nodes) (map (λ n. n.seats.items) nodes)
+      AreOpenFromJournals disk q (length program.functions) (map (λ n. n.log) nodes) (map (λ n. n.seats.items) nodes)

@@ -7,6 +7,7 @@ use Rattle.rtl_language.specs.contracts.language.RtlLanguage.TheImpl as rtl_lang
 use Rattle.ltl.specs.contracts.language.LtlLanguage.TheImpl as ltl_language
 use Rattle.linear_language.specs.contracts.language.LinearLanguage.TheImpl as linear_language
 use Rattle.constprop_check.specs.contracts.pass.ConstPropPass.TheImpl as constants
+use Rattle.durable_model.specs.declared.disk.Disk as disks
 use Rattle.farm_nodes_open_seats.specs.CsePass.TheImpl as expressions
 use Rattle.farm_nodes_open_seats.specs.AllocPass.TheImpl as allocation
 use Rattle.farm_nodes_open_seats.specs.LinearizePass.TheImpl as order
@@ -29,13 +30,13 @@ use Rattle.farm_nodes_open_seats.specs.Read.{AreKept}
 use Rattle.farm_nodes_open_seats.specs.Checked.{AreOffers}
 use Rattle.farm_nodes_open_seats.specs.Seated.{constants_seat, expressions_seat, allocation_seat, order_seat}
 
-module _ {D : Type 0} (is_honest : D → Type 0) (seen : D → List ℕ) (q : Sizes) (functions : ℕ) (logs : List (Log D)) where
+module _ {D : Type 0} (disk : disks.Ghosts D) (q : Sizes) (functions : ℕ) (logs : List (Log D)) where
   module _ {P A B C I O N : Type 0} (from : language.Ghosts A I) (to : language.Ghosts B O) (by : pass.Ghosts P A B C I O) (which : Which) where
     -- The rooms of a pass of all functions are opened from what the nodes have kept of each, and from the offers among the records that
     -- the journals have acknowledged, each of which was checked again.
     pub record AreOpenIn (kept : List (Vec KeptPart)) (show : N → SeatValue (Parts I O C) × Claimed) (rows : List (List N)) : Type 0 where
       pub offers : List (Vec (Option (Parts I O C)))
-      pub are_offers : AreMade (λ i log o. is_honest log.disk → AreOffers from to by which functions (acknowledged seen log) o.items)
+      pub are_offers : AreMade (λ i log o. disk.is_honest log.disk → AreOffers from to by which functions (acknowledged disk.seen log) o.items)
           logs (length logs) offers
       pub opened : AreOpenedIn q kept which functions (rows_of offers) show rows
 
@@ -43,7 +44,7 @@ module _ {D : Type 0} (is_honest : D → Type 0) (seen : D → List ℕ) (q : Si
   -- these sizes, and so the rooms of all passes are opened.
   pub record AreOpenFromJournals {H : Type 0} {h : naming.Ghosts H} (rows : List (List (NumberedSeat H h))) : Type 0 where
     pub kept : List (Vec KeptPart)
-    pub are_kept : AreMade (λ i log k. is_honest log.disk → AreKept functions (length logs) i (acknowledged seen log) k.items)
+    pub are_kept : AreMade (λ i log k. disk.is_honest log.disk → AreKept functions (length logs) i (acknowledged disk.seen log) k.items)
         logs (length logs) kept
     pub settled : (f : ℕ) → f < functions → AreSettled q kept f
     pub constants : AreOpenIn rtl_language.ghosts rtl_language.ghosts constants.ghosts Constants kept constants_seat rows

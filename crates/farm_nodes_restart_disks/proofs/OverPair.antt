@@ -1,5 +1,5 @@
 -- A node comes back over the new disk of a pair, once the old one was read.
-use Rattle.std.proofs.Common.{◌≡◌, ◌≢◌, inl, inr, ℕ, List, Option, Result, Err, refl, sym, ◌∙◌, subst}
+use Rattle.std.proofs.Common.{◌≡◌, ◌≢◌, inl, ℕ, List, Option, Result, Err, refl, sym, ◌∙◌, subst}
 use Rattle.durable_model.specs.Honest.{Unchanged}
 use Rattle.durable_model.specs.Moments.{LeavesOnly}
 use Rattle.durable_model.specs.declared.disk.Disk as disks
@@ -51,8 +51,8 @@ counts_from before mid now told same counted = subst (λ (n : ℕ). CountsFailur
 
 -- why the old disk was not read
 pub early : (old : List ℕ) (e : LogError) → (e ≢ log.Device → e ≡ log.NoMemory) → HasCauseBefore old (restart_fault e)
-early old log.NoMemory only = inl refl
-early old log.Device only = inr (inl refl)
+early old log.NoMemory only = tt
+early old log.Device only = inl refl
 early old log.NotAJournal only = let bad = only (λ same. absurd (cc)) in absurd (cc)
 early old log.BadRecord only = let bad = only (λ same. absurd (cc)) in absurd (cc)
 early old log.OtherSource only = let bad = only (λ same. absurd (cc)) in absurd (cc)

@@ -1,6 +1,7 @@
 -- What a crash leaves of a node's own disk, and that it is never told as other records.
-use Rattle.std.proofs.Common.{◌≡◌, ℕ, ◌*◌, List, [], ◌++◌, length, Option, Some, None, refl, sym, ◌∙◌, subst, inl, inr}
+use Rattle.std.proofs.Common.{◌≡◌, ℕ, ◌*◌, List, [], ◌++◌, length, Option, Some, None, refl, sym, subst, inl, inr}
 use Rattle.std.specs.Prelude.{slice_get}
+use Rattle.durable_model.specs.declared.disk.Disk as disks
 use Rattle.acceptor_log_form.specs.declared.header.Header.{Header}
 use Rattle.acceptor_log_form.specs.declared.record.Record.{Record}
 use Rattle.acceptor_log_writing.specs.OneOf.{Either}
@@ -23,7 +24,7 @@ use Rattle.farm_nodes_restart_node.specs.Returned.{HasReason, HoldsBack}
 use Rattle.farm_nodes_restart_node.proofs.Own.{own}
 use Rattle.farm_nodes_restart_node.proofs.Leaving.{front_in_order}
 use Rattle.durable_pair.specs.Images.{Images, IsSpent}
-use Rattle.farm_nodes_restart_disks.specs.Cause.{HasCauseOn}
+use Rattle.farm_nodes_restart_disks.specs.Cause.{HasCauseBefore, HasCauseOn}
 use Rattle.farm_nodes_restart_disks.specs.Own.{IsOwnFault}
 use Rattle.farm_nodes_restart_disks.specs.Stopped.{left_by, room_in}
 
@@ -36,17 +37,17 @@ module _ {T1 T2 T3 T4 : Type 0} where
   pending_left seats None = sym (none_left (slice_get seats (function_of 0)) 0)
   pending_left seats (Some h) = refl
 
-  pub never_others : {D : Type 0} (texts : Texts T1 T2 T3 T4) (is_honest : D → Type 0) (seen : D → List ℕ) (may_leave : D → List ℕ → Type 0) (log : Log D) (seats : List (Four T1 T2 T3 T4))
-      (halted : Option Halted) (bytes : List ℕ) (rs : List Record) → IsSoundBy texts is_honest seen may_leave log seats halted → is_honest log.disk → may_leave log.disk bytes
+  pub never_others : {D : Type 0} (texts : Texts T1 T2 T3 T4) (disk : disks.Ghosts D) (log : Log D) (seats : List (Four T1 T2 T3 T4))
+      (halted : Option Halted) (bytes : List ℕ) (rs : List Record) → IsSoundBy texts disk log seats halted → disk.is_honest log.disk → disk.may_leave log.disk bytes
       → StandsFor log.header rs bytes → AreOther texts seats (room_in halted) (left_by halted) rs → ⊥
-  never_others texts is_honest seen may_leave log seats halted bytes rs sound honest left stands others =
+  never_others texts disk log seats halted bytes rs sound honest left stands others =
       let u = sound.upto honest in
       own texts seats (room_in halted) (left_by halted) log.header u.0 rs bytes u.1.leave
       (subst (λ (ps : List Record). Either log.header u.0 (u.0 ++ ps) bytes) (pending_left seats halted) (u.1.left bytes left))
       stands others
 
-  module _ {D : Type 0} (texts : Texts T1 T2 T3 T4) (is_honest : D → Type 0) (seen : D → List ℕ) (may_leave : D → List ℕ → Type 0) (log : Log D) (seats : List (Four T1 T2 T3 T4))
-      (halted : Option Halted) (bytes : List ℕ) (sound : IsSoundBy texts is_honest seen may_leave log seats halted) (honest : is_honest log.disk) (left : may_leave log.disk bytes) where
+  module _ {D : Type 0} (texts : Texts T1 T2 T3 T4) (disk : disks.Ghosts D) (log : Log D) (seats : List (Four T1 T2 T3 T4))
+      (halted : Option Halted) (bytes : List ℕ) (sound : IsSoundBy texts disk log seats halted) (honest : disk.is_honest log.disk) (left : disk.may_leave log.disk bytes) where
     -- its records are in order
     pub own_in_order : (rs : List Record) → StandsFor log.header rs bytes → AreInOrder log.header.nodes log.header.node (4 * length seats) rs
     own_in_order rs stands =
@@ -58,23 +59,41 @@ module _ {T1 T2 T3 T4 : Type 0} where
     held_back : (rs : List Record) (fault : RestartFault) → StandsFor log.header rs bytes → HoldsBack texts log.header (4 * length seats) seats (room_in halted) (left_by halted) rs fault → IsOwnFault fault
     held_back rs NoMemory stands held = tt
     held_back rs (Journal e) stands held = absurd (held.1 (own_in_order rs stands))
-    held_back rs OtherRecords stands held = absurd (never_others texts is_honest seen may_leave log seats halted bytes rs sound honest left stands held.1)
+    held_back rs OtherRecords stands held = absurd (never_others texts disk log seats halted bytes rs sound honest left stands held.1)
     held_back rs CellRefused stands held = tt
 
     -- and no fault is told of it but a failure
     pub own_fault : (fault : RestartFault) → HasReason texts log.header (4 * length seats) seats (room_in halted) (left_by halted) bytes fault → IsOwnFault fault
-    own_fault fault (inl memory) = subst IsOwnFault (sym memory) tt
-    own_fault fault (inr (inl device)) = subst IsOwnFault (sym device) tt
-    own_fault fault (inr (inr (inl journal))) =
+    own_fault NoMemory reason = tt
+    own_fault (Journal e) (inl device) = subst (λ x. IsOwnFault (Journal x)) (sym device) tt
+    own_fault (Journal e) (inr (inl journal)) =
         let u = sound.upto honest in
         let between = either-between log.header u.0 (u.0 ++ pending_in seats halted) bytes (pending_in seats halted, refl) (u.1.left bytes left) in
-        absurd (between-no_fault log.header u.0 (u.0 ++ pending_in seats halted) bytes journal.0 between journal.2)
-    own_fault fault (inr (inr (inr held))) = held_back held.0 fault held.1 held.2
+        absurd (between-no_fault log.header u.0 (u.0 ++ pending_in seats halted) bytes e between journal)
+    own_fault (Journal e) (inr (inr held)) = held_back held.0 (Journal e) held.1 held.2
+    own_fault OtherRecords held = held_back held.0 OtherRecords held.1 held.2
+    own_fault CellRefused held = tt
 
--- where the old disk counts no more it is by the new one's bytes
-pub cause_of : {T1 T2 T3 T4 : Type 0} (texts : Texts T1 T2 T3 T4) (h : Header) (rooms : ℕ) (seats : List (Four T1 T2 T3 T4)) (room : ℕ) (p : Option Pending) (im : Images) (fault : RestartFault) → IsSpent im.1
-    → HasCauseOn texts h rooms seats room p im fault → HasReason texts h rooms seats room p im.0 fault
-cause_of texts h rooms seats room p im fault spent (inl (inl memory)) = inl memory
-cause_of texts h rooms seats room p im fault spent (inl (inr (inl device))) = inr (inl device)
-cause_of texts h rooms seats room p im fault spent (inl (inr (inr counts))) = absurd (counts.0 spent)
-cause_of texts h rooms seats room p im fault spent (inr has) = has.1
+module _ {T1 T2 T3 T4 : Type 0} (texts : Texts T1 T2 T3 T4) (h : Header) (rooms : ℕ) (seats : List (Four T1 T2 T3 T4)) (room : ℕ) (p : Option Pending) (im : Images) where
+  -- where the old disk counts no more it is by the new one's bytes
+  pub cause_of : (fault : RestartFault) → IsSpent im.1 → HasCauseOn texts h rooms seats room p im fault → HasReason texts h rooms seats room p im.0 fault
+  cause_of NoMemory spent cause = tt
+  cause_of (Journal e) spent (inl (inl device)) = inl device
+  cause_of (Journal e) spent (inl (inr counts)) = absurd (counts.0 spent)
+  cause_of (Journal e) spent (inr has) = has.1
+  cause_of OtherRecords spent cause = cause.1
+  cause_of CellRefused spent cause = cause.1
+
+  -- so it is then
+  pub cause_over : (fault : RestartFault) → IsSpent im.1 → HasReason texts h rooms seats room p im.0 fault → HasCauseOn texts h rooms seats room p im fault
+  cause_over NoMemory spent reason = tt
+  cause_over (Journal e) spent reason = inr (spent, reason)
+  cause_over OtherRecords spent reason = (spent, reason)
+  cause_over CellRefused spent reason = (spent, reason)
+
+  -- and else before those are read
+  pub cause_before : (fault : RestartFault) → HasCauseBefore im.1 fault → HasCauseOn texts h rooms seats room p im fault
+  cause_before NoMemory before = tt
+  cause_before (Journal e) before = inl before
+  cause_before OtherRecords before = absurd before
+  cause_before CellRefused before = absurd before

@@ -2,6 +2,7 @@
 use Rattle.std.proofs.Common.{◌≡◌, ℕ, ◌*◌, ◌<◌, true, List, [], ◌++◌, length, append-nil, Option, Some, None, inl, refl, sym, ap, ◌∙◌, subst, arith}
 use Rattle.std.specs.Prelude.{slice_get}
 use Rattle.std.proofs.lemmas.Option.{slice_get_within}
+use Rattle.durable_model.specs.declared.disk.Disk as disks
 use Rattle.acceptor_log_form.specs.declared.header.Header.{Header}
 use Rattle.acceptor_log_form.specs.declared.record.Record.{Record}
 use Rattle.acceptor_log_writing.specs.OneOf.{Either}
@@ -47,26 +48,26 @@ module _ {T1 T2 T3 T4 : Type 0} (old new : List (Four T1 T2 T3 T4)) where
       let bad : Some b ≡ None = sym is ∙ (rest.each m s.0 t s.1 at).ballot in
       absurd (cc)
 
-module _ {D T1 T2 T3 T4 : Type 0} (texts : Texts T1 T2 T3 T4) (is_honest : D → Type 0) (seen : D → List ℕ) (may_leave : D → List ℕ → Type 0) where
+module _ {D T1 T2 T3 T4 : Type 0} (texts : Texts T1 T2 T3 T4) (disk : disks.Ghosts D) where
   -- the journal that it opened holds just what it acknowledges, and stands for its seats
-  pub sound_back : (log : Log D) (old seats : List (Four T1 T2 T3 T4)) (rooms : ℕ) → IsSound is_honest seen may_leave log → log.going ≡ true → rooms ≡ 4 * length seats
+  pub sound_back : (log : Log D) (old seats : List (Four T1 T2 T3 T4)) (rooms : ℕ) → IsSound disk log → log.going ≡ true → rooms ≡ 4 * length seats
       → AreSeatsOf log.header old → AreOfRuns old → AreAtRest old seats
-      → (is_honest log.disk → Leave texts seats (acknowledged seen log)) → (is_honest log.disk → AreInOrder log.header.nodes log.header.node rooms (acknowledged seen log))
-      → ((bytes : List ℕ) → is_honest log.disk → may_leave log.disk bytes → StandsFor log.header (acknowledged seen log) bytes) → IsSoundBy texts is_honest seen may_leave log seats None
+      → (disk.is_honest log.disk → Leave texts seats (acknowledged disk.seen log)) → (disk.is_honest log.disk → AreInOrder log.header.nodes log.header.node rooms (acknowledged disk.seen log))
+      → ((bytes : List ℕ) → disk.is_honest log.disk → disk.may_leave log.disk bytes → StandsFor log.header (acknowledged disk.seen log) bytes) → IsSoundBy texts disk log seats None
   sound_back log old seats rooms sound going size own of at_rest leave order rest = record {
     journal = sound;
     going = λ none. going;
     own = rested old seats log.header own at_rest;
     of_runs = rested_runs old seats of at_rest;
     upto = λ honest. (
-      acknowledged seen log,
+      acknowledged disk.seen log,
       record {
         leave = leave honest;
-        named = subst (λ (m : ℕ). AreOf m (acknowledged seen log)) size (of_rooms log.header.nodes log.header.node rooms (acknowledged seen log) (order honest));
+        named = subst (λ (m : ℕ). AreOf m (acknowledged disk.seen log)) size (of_rooms log.header.nodes log.header.node rooms (acknowledged disk.seen log) (order honest));
         in_order =
-            subst (λ (m : ℕ). AreInOrder log.header.nodes log.header.node m (acknowledged seen log ++ [])) size
-            (subst (λ (rs : List Record). AreInOrder log.header.nodes log.header.node rooms rs) (sym (append-nil (acknowledged seen log))) (order honest));
-        unproposed = rest_unproposed old seats (acknowledged seen log) at_rest;
+            subst (λ (m : ℕ). AreInOrder log.header.nodes log.header.node m (acknowledged disk.seen log ++ [])) size
+            (subst (λ (rs : List Record). AreInOrder log.header.nodes log.header.node rooms rs) (sym (append-nil (acknowledged disk.seen log))) (order honest));
+        unproposed = rest_unproposed old seats (acknowledged disk.seen log) at_rest;
         left = λ c left. inl (rest c honest left);
       },
       λ none. refl,
@@ -83,7 +84,7 @@ module _ {D T1 T2 T3 T4 : Type 0} (texts : Texts T1 T2 T3 T4) (is_honest : D →
         ∙ ap (λ (l : List (Four T1 T2 T3 T4)). pending_at l stopped.room stopped.halt.pending) (sym same)))
 
     -- its journal is as it was, and the same is left to do
-    pub sound_refused : IsSoundBy texts is_honest seen may_leave log old halted → IsSoundBy texts is_honest seen may_leave log new (Some stopped)
+    pub sound_refused : IsSoundBy texts disk log old halted → IsSoundBy texts disk log new (Some stopped)
     sound_refused sound = record {
       journal = sound.journal;
       going = λ none. absurd (cc);

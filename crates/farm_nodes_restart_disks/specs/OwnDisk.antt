@@ -18,12 +18,12 @@ module _ {D : Type 0} (disk : disks.Ghosts D) where
   abbrev pub LeavesInOrder : Type 0
   LeavesInOrder =
       (log : Log D) (seats : List (Four ConstantsOffer ExpressionsOffer AllocationOffer OrderOffer)) (halted : Option Halted) (bytes : List ℕ) (rs : List Record)
-      → IsSoundNode disk.is_honest disk.seen disk.may_leave log seats halted → disk.is_honest log.disk → disk.may_leave log.disk bytes
+      → IsSoundNode disk log seats halted → disk.is_honest log.disk → disk.may_leave log.disk bytes
       → StandsFor log.header rs bytes → AreInOrder log.header.nodes log.header.node (4 * length seats) rs
 
   -- and they are those of what its seats keep, with what is pending or without
   abbrev pub LeavesNoOthers : Type 0
   LeavesNoOthers =
       (log : Log D) (seats : List (Four ConstantsOffer ExpressionsOffer AllocationOffer OrderOffer)) (halted : Option Halted) (bytes : List ℕ) (rs : List Record)
-      → IsSoundNode disk.is_honest disk.seen disk.may_leave log seats halted → disk.is_honest log.disk → disk.may_leave log.disk bytes
+      → IsSoundNode disk log seats halted → disk.is_honest log.disk → disk.may_leave log.disk bytes
       → StandsFor log.header rs bytes → AreOther pass_texts seats (room_in halted) (left_by halted) rs → ⊥

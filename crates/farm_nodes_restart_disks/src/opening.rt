@@ -38,7 +38,7 @@ pub(crate) fn come_back_on<P: Pair, H: Naming>(
     requires pending { HavePending seats.old.items room pending.now }
 
     // The journal goes on, and has acknowledged just the records over which the seats came back.
-    ensures sound { IfOk result (IsSound P.is_honest P.seen P.may_leave) }
+    ensures sound { IfOk result (IsSound P.Disk) }
     ensures ok { IfOk result (λ log. (log.going ≡ true) × (log.header ≡ header.now)) }
     ensures honest { IfOk result (λ log. P.is_honest log.disk ↔ P.is_whole pair) }
     ensures whole { P.is_whole pair → IfErr result (λ refused. P.is_whole refused.0) }

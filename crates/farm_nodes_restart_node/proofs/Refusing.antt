@@ -7,6 +7,7 @@ use Rattle.acceptor_log_form.specs.declared.header.Header.{Header}
 use Rattle.acceptor_log_form.specs.declared.record.Record.{Record}
 use Rattle.acceptor_log_form.specs.Fault.{HasFault}
 use Rattle.acceptor_log_form.specs.Order.{AreInOrder}
+use Rattle.acceptor_log_form.specs.Text.{StandsFor}
 use Rattle.farm_nodes_turn_step.specs.declared.stop.Pending.{Pending}
 use Rattle.farm_nodes_turn_step.specs.declared.stop.Pending.TheVariants.{Act, Offer}
 use Rattle.farm_nodes_restart_records.specs.Fours.{Four}
@@ -52,13 +53,21 @@ journal_told before now e later failed unfailed = record {
 
 module _ {X1 X2 X3 X4 : Type 0} (texts : Texts X1 X2 X3 X4) (h : Header) (rooms : ℕ) (seats : List (Four X1 X2 X3 X4)) (room : ℕ) (p : Option Pending) where
   pub not_opened : (bytes : List ℕ) (e : LogError) → (e ≢ log.NoMemory → e ≢ log.Device → HasFault h bytes e) → HasReason texts h rooms seats room p bytes (restart_fault e)
-  not_opened bytes log.NoMemory fault = inl refl
-  not_opened bytes log.Device fault = inr (inl refl)
-  not_opened bytes log.NotAJournal fault = inr (inr (inl (log.NotAJournal, refl, fault (λ e. absurd (cc)) (λ e. absurd (cc)))))
-  not_opened bytes log.BadRecord fault = inr (inr (inl (log.BadRecord, refl, fault (λ e. absurd (cc)) (λ e. absurd (cc)))))
-  not_opened bytes log.OtherSource fault = inr (inr (inl (log.OtherSource, refl, fault (λ e. absurd (cc)) (λ e. absurd (cc)))))
+  not_opened bytes log.NoMemory fault = tt
+  not_opened bytes log.Device fault = inl refl
+  not_opened bytes log.NotAJournal fault = inr (inl (fault (λ e. absurd (cc)) (λ e. absurd (cc))))
+  not_opened bytes log.BadRecord fault = inr (inl (fault (λ e. absurd (cc)) (λ e. absurd (cc))))
+  not_opened bytes log.OtherSource fault = inr (inl (fault (λ e. absurd (cc)) (λ e. absurd (cc))))
   not_opened bytes log.Stopped fault = absurd (fault (λ e. absurd (cc)) (λ e. absurd (cc)))
   not_opened bytes log.Full fault = absurd (fault (λ e. absurd (cc)) (λ e. absurd (cc)))
+
+  -- where records hold it back
+  pub held_reason : (bytes : List ℕ) (rs : List Record) (fault : RestartFault) → StandsFor h rs bytes → HoldsBack texts h rooms seats room p rs fault
+      → HasReason texts h rooms seats room p bytes fault
+  held_reason bytes rs NoMemory stands held = tt
+  held_reason bytes rs (Journal e) stands held = inr (inr (rs, stands, held))
+  held_reason bytes rs OtherRecords stands held = (rs, stands, held)
+  held_reason bytes rs CellRefused stands held = (rs, stands, held)
 
   module _ (rs : List Record) where
     pub out_of_order : (e : LogError) → IsRefused h.nodes h.node rooms rs e → HoldsBack texts h rooms seats room p rs (restart_fault e)

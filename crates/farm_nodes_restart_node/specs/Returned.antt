@@ -1,6 +1,5 @@
 -- A node's seats come back over its records.
 use Rattle.std.specs.Prelude.{◌≡◌, ◌⊎◌, ℕ, List, length, Option, Some, None, slice_get}
-use Rattle.acceptor_log_form.specs.declared.errors.LogError.{LogError}
 use Rattle.acceptor_log_form.specs.declared.errors.LogError.TheVariants as log
 use Rattle.acceptor_log_form.specs.declared.header.Header.{Header}
 use Rattle.acceptor_log_form.specs.declared.record.Record.{Record}
@@ -88,6 +87,10 @@ IsOfferPending None = ⊥
 IsOfferPending (Some (Act a)) = ⊥
 IsOfferPending (Some (Offer r)) = Unit {0}
 
+-- records that the bytes stand for, of which it is so
+abbrev pub OfRecords : Header → List ℕ → (List Record → Type 0) → Type 0
+OfRecords h bytes P = (rs : List Record) × StandsFor h rs bytes × P rs
+
 module _ {X1 X2 X3 X4 : Type 0} where
   -- Why the seats don't come back over these records: memory was refused; they are out of order; or they are in order,
   -- and are records of other kept parts or offers, or the cell refused the offer whose record stands last.
@@ -97,10 +100,12 @@ module _ {X1 X2 X3 X4 : Type 0} where
   HoldsBack texts h rooms seats room p rs OtherRecords = AreInOrder h.nodes h.node rooms rs × AreOther texts seats room p rs
   HoldsBack texts h rooms seats room p rs CellRefused = AreInOrder h.nodes h.node rooms rs × LeaveWith texts seats room p rs × IsOfferPending p
 
-  -- Why a node doesn't come back over bytes: the journal can't be opened, or its records hold the node back. A device's
-  -- failure has a clause of its own.
+  -- Why a node doesn't come back over bytes: memory was refused; the device failed, or the bytes are no journal of its header, or
+  -- their records are out of order; they are in order, and are others; or the cell refused the offer whose record stands last. A
+  -- device's failure has a clause of its own.
   abbrev pub HasReason : Texts X1 X2 X3 X4 → Header → ℕ → List (Four X1 X2 X3 X4) → ℕ → Option Pending → List ℕ → RestartFault → Type 0
-  HasReason texts h rooms seats room p bytes fault =
-      (fault ≡ NoMemory) ⊎ (fault ≡ Journal log.Device)
-      ⊎ ((e : LogError) × (fault ≡ Journal e) × HasFault h bytes e)
-      ⊎ ((rs : List Record) × StandsFor h rs bytes × HoldsBack texts h rooms seats room p rs fault)
+  HasReason texts h rooms seats room p bytes NoMemory = Unit {0}
+  HasReason texts h rooms seats room p bytes (Journal e) =
+      (e ≡ log.Device) ⊎ HasFault h bytes e ⊎ OfRecords h bytes (λ rs. HoldsBack texts h rooms seats room p rs (Journal e))
+  HasReason texts h rooms seats room p bytes OtherRecords = OfRecords h bytes (λ rs. HoldsBack texts h rooms seats room p rs OtherRecords)
+  HasReason texts h rooms seats room p bytes CellRefused = OfRecords h bytes (λ rs. HoldsBack texts h rooms seats room p rs CellRefused)

@@ -41,7 +41,7 @@ pub fn come_back<D: Disk, H: Naming>(
     requires pending { HavePending seats.old.items room pending.now }
 
     // The journal goes on, and has acknowledged just the records over which the seats came back.
-    ensures sound { IfOk result (IsSound D.is_honest D.seen D.may_leave) }
+    ensures sound { IfOk result (IsSound D.Disk) }
     ensures ok { IfOk result (λ log. (log.going ≡ true) × (log.header ≡ header.now)) }
     ensures honest { D.is_honest (disk_given result) ↔ D.is_honest disk }
     ensures listed { D.is_honest disk

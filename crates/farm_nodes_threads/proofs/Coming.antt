@@ -2,6 +2,7 @@
 use Rattle.std.proofs.Common.{◌≡◌, ◌≢◌, ℕ, zero, suc, ◌<◌, Bool, true, false, eqb, List, [], ◌++◌, length, map, slice_get, Option, Some, None, refl, sym, ap, ◌∙◌, subst, subst₂, arith, append_assoc, append-nil}
 use Rattle.std.proofs.lemmas.Bool.{eqb-true, eq-eqb}
 use Rattle.std.proofs.lemmas.Option.{slice_get_within}
+use Rattle.durable_model.specs.declared.disk.Disk as disks
 use Rattle.durable_model.specs.Moments.{started, composed}
 use Rattle.acceptor_log_form.specs.declared.header.Header.{Header}
 use Rattle.acceptor_log_form.specs.declared.record.Record.{Record}
@@ -128,31 +129,30 @@ pub by_halt : {P : Type 0} (h : Option Halted) → (h ≡ None → P) → (h ≢
 by_halt None none some = none refl
 by_halt (Some h) none some = some (λ (e : Some h ≡ None). absurd (cc))
 
-module _ {D T1 T2 T3 T4 : Type 0} (texts : Texts T1 T2 T3 T4) (is_honest : D → Type 0) (seen : D → List ℕ) (may_leave : D → List ℕ → Type 0)
-    (moment : D → ℕ) (left_since : D → ℕ → List ℕ → Type 0) where
+module _ {D T1 T2 T3 T4 : Type 0} (texts : Texts T1 T2 T3 T4) (disk : disks.Ghosts D) where
   abbrev pub Came : Log D → Log D → List (Four T1 T2 T3 T4) → List (Four T1 T2 T3 T4) → Option Halted → Option Halted → Type 0
-  Came old new seats after halted now = CameBackBy texts is_honest seen may_leave moment left_since old new seats after halted now
+  Came old new seats after halted now = CameBackBy texts disk old new seats after halted now
 
   abbrev pub Into : Log D → Log D → List (Four T1 T2 T3 T4) → Option Halted → Type 0
-  Into old new after now = TurnsBy texts seen may_leave moment left_since old new after now
+  Into old new after now = TurnsBy texts disk old new after now
 
   -- no turn
   into_none : (log : Log D) (seats : List (Four T1 T2 T3 T4)) (halted : Option Halted) (upto : List Record)
-      → ((c : List ℕ) → left_since log.disk (moment log.disk) c → may_leave log.disk c)
-      → IsJournalOf texts may_leave log seats halted upto → upto ≡ acknowledged seen log → Into log log seats halted
+      → ((c : List ℕ) → disk.left_since log.disk (disk.moment log.disk) c → disk.may_leave log.disk c)
+      → IsJournalOf texts disk log seats halted upto → upto ≡ acknowledged disk.seen log → Into log log seats halted
   into_none log seats halted upto now stands all = record {
     upto = upto;
-    longer = subst (λ (l : List Record). Begins (acknowledged seen log) l) (sym all) (same_begins (acknowledged seen log));
+    longer = subst (λ (l : List Record). Begins (acknowledged disk.seen log) l) (sym all) (same_begins (acknowledged disk.seen log));
     stands = stands;
     all = λ none. all;
-    any_moment = started moment left_since log.disk (Between log.header (acknowledged seen log) (upto ++ pending_in seats halted))
+    any_moment = started disk.moment disk.left_since log.disk (Between log.header (acknowledged disk.seen log) (upto ++ pending_in seats halted))
         (λ c left. subst (λ (l : List Record). Between log.header l (upto ++ pending_in seats halted) c) all
         (either-between log.header upto (upto ++ pending_in seats halted) c (pending_in seats halted, refl) (stands.left c (now c left))));
   }
 
   pub came_none : (log : Log D) (seats : List (Four T1 T2 T3 T4)) (halted : Option Halted)
-      → (is_honest log.disk → (c : List ℕ) → left_since log.disk (moment log.disk) c → may_leave log.disk c)
-      → IsSoundBy texts is_honest seen may_leave log seats halted → Came log log seats seats halted halted
+      → (disk.is_honest log.disk → (c : List ℕ) → disk.left_since log.disk (disk.moment log.disk) c → disk.may_leave log.disk c)
+      → IsSoundBy texts disk log seats halted → Came log log seats seats halted halted
   came_none log seats halted now sound = record {
     functions = refl;
     rooms = λ f s t e g. keep_same s t (let same : Some s ≡ Some t = sym e ∙ g in cc);
@@ -178,12 +178,12 @@ module _ {D T1 T2 T3 T4 : Type 0} (texts : Texts T1 T2 T3 T4) (is_honest : D →
       let both : Some t ≡ Some s = sym g ∙ (others f apart ∙ e) in
       keep_same s t (let it : t ≡ s = cc in it)
 
-  pub came_once : (faults : D → ℕ) (old new : Log D) (seats after : List (Four T1 T2 T3 T4)) (halted now : Option Halted) (room : ℕ)
+  pub came_once : (old new : Log D) (seats after : List (Four T1 T2 T3 T4)) (halted now : Option Halted) (room : ℕ)
       → length after ≡ length seats → ((f : ℕ) → f ≢ function_of room → slice_get after f ≡ slice_get seats f)
       → ((s t : Four T1 T2 T3 T4) → slice_get seats (function_of room) ≡ Some s → slice_get after (function_of room) ≡ Some t → halted ≡ None → Keep s t)
-      → IsServed is_honest seen may_leave faults old new → (is_honest old.disk → halted ≡ None → Into old new after now)
+      → IsServed disk old new → (disk.is_honest old.disk → halted ≡ None → Into old new after now)
       → (halted ≢ None → (new ≡ old) × (after ≡ seats) × (now ≡ halted)) → Came old new seats after halted now
-  came_once faults old new seats after halted now room long others keeps served into stopped = record {
+  came_once old new seats after halted now room long others keeps served into stopped = record {
     functions = long;
     rooms = λ f s t e g. keep_at old new seats after halted now room others keeps stopped f s t e g (eqb f (function_of room)) refl;
     header = served.header;
@@ -196,23 +196,23 @@ module _ {D T1 T2 T3 T4 : Type 0} (texts : Texts T1 T2 T3 T4) (is_honest : D →
   into_through : (old mid new : Log D) (seats after : List (Four T1 T2 T3 T4)) (now : Option Halted) → mid.header ≡ old.header
       → Into old mid seats None → Into mid new after now → Into old new after now
   into_through old mid new seats after now header a b =
-      let all : a.upto ≡ acknowledged seen mid = a.all refl in
+      let all : a.upto ≡ acknowledged disk.seen mid = a.all refl in
       let begins : Begins a.upto b.upto = subst (λ (l : List Record). Begins l b.upto) (sym all) b.longer in
       let pending : List Record = pending_in after now in
       record {
         upto = b.upto;
-        longer = through (acknowledged seen old) a.upto b.upto a.longer begins;
+        longer = through (acknowledged disk.seen old) a.upto b.upto a.longer begins;
         stands = b.stands;
         all = b.all;
-        any_moment = composed moment left_since old.disk mid.disk new.disk
-            (Between old.header (acknowledged seen old) (a.upto ++ []))
-            (Between mid.header (acknowledged seen mid) (b.upto ++ pending))
-            (Between old.header (acknowledged seen old) (b.upto ++ pending))
+        any_moment = composed disk.moment disk.left_since old.disk mid.disk new.disk
+            (Between old.header (acknowledged disk.seen old) (a.upto ++ []))
+            (Between mid.header (acknowledged disk.seen mid) (b.upto ++ pending))
+            (Between old.header (acknowledged disk.seen old) (b.upto ++ pending))
             a.any_moment b.any_moment
-            (λ c w. wider old.header old.header (acknowledged seen old) (a.upto ++ []) (acknowledged seen old) (b.upto ++ pending) c refl (same_begins (acknowledged seen old))
+            (λ c w. wider old.header old.header (acknowledged disk.seen old) (a.upto ++ []) (acknowledged disk.seen old) (b.upto ++ pending) c refl (same_begins (acknowledged disk.seen old))
             (subst (λ (rs : List Record). Begins rs (b.upto ++ pending)) (sym (append-nil a.upto)) (longer a.upto b.upto pending begins)) w)
-            (λ c w. wider mid.header old.header (acknowledged seen mid) (b.upto ++ pending) (acknowledged seen old) (b.upto ++ pending) c header
-            (subst (λ (l : List Record). Begins (acknowledged seen old) l) all a.longer) (same_begins (b.upto ++ pending)) w);
+            (λ c w. wider mid.header old.header (acknowledged disk.seen mid) (b.upto ++ pending) (acknowledged disk.seen old) (b.upto ++ pending) c header
+            (subst (λ (l : List Record). Begins (acknowledged disk.seen old) l) all a.longer) (same_begins (b.upto ++ pending)) w);
       }
 
   pub came_through : (old mid new : Log D) (seats among after : List (Four T1 T2 T3 T4)) (halted then now : Option Halted)

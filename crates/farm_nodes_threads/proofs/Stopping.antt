@@ -35,7 +35,7 @@ module _ {D : Type 0} (disk : disks.Ghosts D) where
   -- a cause between two journals is one since an earlier journal
   cause_since : (A B : Type 0) (old mid new : Log D) (pending : List Record) (fault : Fault) → (A → B)
       → disk.faults old.disk ≤ disk.faults mid.disk → (disk.is_honest old.disk → disk.is_honest mid.disk)
-      → HasHaltCause disk.is_honest disk.faults A mid new pending fault → HasHaltCause disk.is_honest disk.faults B old new pending fault
+      → HasHaltCause disk A mid new pending fault → HasHaltCause disk B old new pending fault
   cause_since A B old mid new pending NoMemory wide later honest cause = tt
   cause_since A B old mid new pending (Journal log.NoMemory) wide later honest cause = tt
   cause_since A B old mid new pending (Journal log.Device) wide later honest cause =
@@ -52,12 +52,12 @@ module _ {D : Type 0} (disk : disks.Ghosts D) where
   module _ (functions : List (Named FunctionData)) (seats : List (Four ConstantsOffer ExpressionsOffer AllocationOffer OrderOffer)) where
     -- where a turn told the fault
     pub stop_told : (TooLarge : Type 0) (old new : Log D) (now : Option Halted) (told : Option Fault) → told ≡ fault_in now → (TooLarge → IsTooLarge functions seats)
-        → IfSome told (λ fault. HasHaltCause disk.is_honest disk.faults TooLarge old new (pending_in seats now) fault)
+        → IfSome told (λ fault. HasHaltCause disk TooLarge old new (pending_in seats now) fault)
         → IsStoppedFor disk functions old new seats now
     stop_told TooLarge old new None told is wide cause = tt
     stop_told TooLarge old new (Some h) told is wide cause =
         cause_since TooLarge (IsTooLarge functions seats) old old new (pending_in seats (Some h)) h.halt.fault wide (omega arith) (λ a. a)
-        (subst (λ o. IfSome o (λ fault. HasHaltCause disk.is_honest disk.faults TooLarge old new (pending_in seats (Some h)) fault)) is cause)
+        (subst (λ o. IfSome o (λ fault. HasHaltCause disk TooLarge old new (pending_in seats (Some h)) fault)) is cause)
 
     -- since an earlier journal
     pub stop_since : (old mid new : Log D) (now : Option Halted) → disk.faults old.disk ≤ disk.faults mid.disk → (disk.is_honest old.disk → disk.is_honest mid.disk)

@@ -47,7 +47,7 @@ module _ {D O H : Type 0} {h : naming.Ghosts H} (disk : disks.Ghosts D) where
   came_by_one : (x y : FarmNode D O H h) → TakesTurn disk x y → CameBackNode disk x y
   came_by_one x y turn =
       let long = as_many x y turn.others.program in
-      came_once pass_texts disk.is_honest disk.seen disk.may_leave disk.moment disk.left_since disk.faults x.log y.log (fours_of x.seats.items) (fours_of y.seats.items)
+      came_once pass_texts disk x.log y.log (fours_of x.seats.items) (fours_of y.seats.items)
       x.halted y.halted turn.room
       (map_length four_of y.seats.items ∙ (long ∙ sym (map_length four_of x.seats.items)))
       (λ f other. map_same four_of y.seats.items x.seats.items f (turn.others.seats f other))
@@ -99,7 +99,7 @@ module _ {D O H : Type 0} {h : naming.Ghosts H} (disk : disks.Ghosts D) where
       let taken = first.3 in let again = last.3 in
       let both = after_both (TakesTurn disk) taken.taken again.taken x y z taken.after again.after in (
         last.0 ∙ first.0,
-        came_through pass_texts disk.is_honest disk.seen disk.may_leave disk.moment disk.left_since x.log y.log z.log (fours_of x.seats.items) (fours_of y.seats.items)
+        came_through pass_texts disk x.log y.log z.log (fours_of x.seats.items) (fours_of y.seats.items)
             (fours_of z.seats.items) x.halted y.halted z.halted first.1 last.1,
         stops_through x y z first.0 (later_by taken.taken x y taken.after) first.1 last.1 first.2 last.2,
         record { taken = taken.taken + again.taken; counted = let a = taken.counted in let b = again.counted in omega (arith, a, b); after = both },
@@ -110,7 +110,7 @@ module _ {D O H : Type 0} {h : naming.Ghosts H} (disk : disks.Ghosts D) where
     pub came_by_none : (most : ℕ) (x : FarmNode D O H h) → MayBeAsked disk x → NodeCameBack disk most x x
     came_by_none most x fit = (
       refl,
-      came_none pass_texts disk.is_honest disk.seen disk.may_leave disk.moment disk.left_since x.log (fours_of x.seats.items) x.halted (now x.log.disk) fit.0,
+      came_none pass_texts disk x.log (fours_of x.seats.items) x.halted (now x.log.disk) fit.0,
       λ none. subst (λ o. IsStoppedFor disk (arc_value x.program).functions x.log x.log (fours_of x.seats.items) o) (sym none) tt,
       record { taken = 0; counted = omega arith; after = refl },
     )

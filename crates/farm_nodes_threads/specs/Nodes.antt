@@ -13,7 +13,7 @@ module _ {D O H : Type 0} {h : naming.Ghosts H} (disk : disks.Ghosts D) where
   -- it came back from its turns with what they recorded
   abbrev pub CameBackNode : FarmNode D O H h → FarmNode D O H h → Type 0
   CameBackNode n m =
-      CameBack disk.is_honest disk.seen disk.may_leave disk.moment disk.left_since n.log m.log (fours_of n.seats.items) (fours_of m.seats.items) n.halted m.halted
+      CameBack disk n.log m.log (fours_of n.seats.items) (fours_of m.seats.items) n.halted m.halted
 
   -- where it was going and is stopped, there is a cause
   abbrev pub StopsForCause : FarmNode D O H h → FarmNode D O H h → Type 0

@@ -15,7 +15,7 @@ module _ {D O H : Type 0} {h : naming.Ghosts H} (disk : disks.Ghosts D) where
     pub room : ℕ
     pub told : Turn
     pub within : function_of room < length old.seats.items
-    pub served : IsServed disk.is_honest disk.seen disk.may_leave disk.faults old.log new.log
+    pub served : IsServed disk old.log new.log
     pub stopped : old.halted ≢ None → DoesNothing old new told
     pub others : StaysElsewhere room old new
     pub leaves : LeavesRoom room old new

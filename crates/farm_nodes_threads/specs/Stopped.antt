@@ -27,4 +27,4 @@ abbrev pub IsStoppedFor : {D : Type 0} → disks.Ghosts D → List (Named Functi
     → List (Four ConstantsOffer ExpressionsOffer AllocationOffer OrderOffer) → Option Halted → Type 0
 IsStoppedFor disk functions old new seats None = Unit {0}
 IsStoppedFor disk functions old new seats (Some h) =
-    HasHaltCause disk.is_honest disk.faults (IsTooLarge functions seats) old new (pending_in seats (Some h)) h.halt.fault
+    HasHaltCause disk (IsTooLarge functions seats) old new (pending_in seats (Some h)) h.halt.fault

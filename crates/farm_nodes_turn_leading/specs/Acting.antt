@@ -13,10 +13,10 @@ module _ {D : Type 0} (disk : disks.Ghosts D) where
   abbrev pub LogsActs : Log D → Log D → ℕ → SeatState → SeatState → Result Bool Stop → Type 0
   LogsActs old new room s t result =
       disk.is_honest old.disk → old.going ≡ true
-      → Journalled disk.is_honest disk.seen disk.may_leave disk.moment disk.left_since old new room s t result
+      → Journalled disk old new room s t result
 
   -- where the journal went on, a node that is stopped has a cause for it
   abbrev pub MayStopFor : Log D → Log D → ℕ → SeatState → Result Bool Stop → Type 0
   MayStopFor old new room t result =
       old.going ≡ true
-      → IfErr result (λ stop. HasCause disk.is_honest disk.faults old new (pending_of room t stop.pending) stop.error)
+      → IfErr result (λ stop. HasCause disk old new (pending_of room t stop.pending) stop.error)

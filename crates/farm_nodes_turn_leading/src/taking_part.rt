@@ -24,8 +24,8 @@ pub fn take_part<D: Disk>(
     room: u16,
     draws: &mut Pcg32,
 ) -> Result<bool, Stop>
-    requires { IsSound D.is_honest D.seen D.may_leave log.old }
-    ensures served { IsServed D.is_honest D.seen D.may_leave D.faults log.old log.new }
+    requires { IsSound D.Disk log.old }
+    ensures served { IsServed D.Disk log.old log.new }
     ensures going { IfOk result (λ moved. log.new.going ≡ log.old.going) }
     ensures remains { StaysInRoom seat.old seat.new }
 

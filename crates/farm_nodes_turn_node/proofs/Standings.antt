@@ -1,6 +1,7 @@
 -- What stands behind a turn in one room: the journal stands for what the node keeps.
 use Rattle.std.proofs.Common.{◌≡◌, ◌≢◌, ℕ, ◌*◌, ◌<◌, ◌≤◌, Bool, true, false, eqb, List, ◌++◌, length, slice_get, Option, Some, None, refl, sym, ap, ◌∙◌, subst, arith}
 use Rattle.std.proofs.lemmas.Bool.{eqb-true, eq-eqb}
+use Rattle.durable_model.specs.declared.disk.Disk as disks
 use Rattle.durable_model.specs.Moments.{LeavesOnly}
 use Rattle.paxos_core_world.specs.KeptPart.{KeptPart}
 use Rattle.acceptor_log_form.specs.declared.header.Header.{Header}
@@ -113,12 +114,12 @@ module _ {T1 T2 T3 T4 : Type 0} (room : ℕ) (old new : List (Four T1 T2 T3 T4))
       offers = told_turned;
     }
 
-module _ {D T1 T2 T3 T4 : Type 0} (texts : Texts T1 T2 T3 T4) (seen : D → List ℕ) (may_leave : D → List ℕ → Type 0) (moment : D → ℕ) (left_since : D → ℕ → List ℕ → Type 0) where
+module _ {D T1 T2 T3 T4 : Type 0} (texts : Texts T1 T2 T3 T4) (disk : disks.Ghosts D) where
   pub turns_into : (old new : Log D) (seats : List (Four T1 T2 T3 T4)) (halted : Option Halted) (room : ℕ) (s t : SeatState) (upto pending : List Record)
-      → new.header ≡ old.header → JournalAdvances seen may_leave moment left_since old new room s t upto pending
+      → new.header ≡ old.header → JournalAdvances disk old new room s t upto pending
       → pending ≡ pending_in seats halted → Leave texts seats upto → AreOf (4 * length seats) upto
-      → AreInOrder new.header.nodes new.header.node (4 * length seats) (upto ++ pending_in seats halted) → AreUnproposed seats upto → (halted ≡ None → upto ≡ acknowledged seen new)
-      → TurnsBy texts seen may_leave moment left_since old new seats halted
+      → AreInOrder new.header.nodes new.header.node (4 * length seats) (upto ++ pending_in seats halted) → AreUnproposed seats upto → (halted ≡ None → upto ≡ acknowledged disk.seen new)
+      → TurnsBy texts disk old new seats halted
   turns_into old new seats halted room s t upto pending header advances same stands named in_order unproposed all = record {
     upto = upto;
     longer = advances.longer;
@@ -132,5 +133,5 @@ module _ {D T1 T2 T3 T4 : Type 0} (texts : Texts T1 T2 T3 T4) (seen : D → List
           (subst (λ (p : List Record). Either old.header upto (upto ++ p) c) same (advances.left c left));
     };
     all = all;
-    any_moment = subst (λ (p : List Record). LeavesOnly moment left_since old.disk new.disk (Between old.header (acknowledged seen old) (upto ++ p))) same advances.any_moment;
+    any_moment = subst (λ (p : List Record). LeavesOnly disk.moment disk.left_since old.disk new.disk (Between old.header (acknowledged disk.seen old) (upto ++ p))) same advances.any_moment;
   }

@@ -1,6 +1,7 @@
 -- A whole turn of a node that was not stopped, by what the turn in its room told.
 use Rattle.std.proofs.Common.{◌≡◌, ◌≢◌, ℕ, ◌*◌, ◌<◌, Bool, true, false, ltb, List, [], ◌++◌, append-nil, length, map, slice_get, Option, Some, None, is_some, IfSome, Result, Ok, Err, IfOk, refl, sym, ap, ◌∙◌, subst, arith}
 use Rattle.paxos_core_world.specs.Quorum.{Sizes}
+use Rattle.durable_model.specs.declared.disk.Disk as disks
 use Rattle.acceptor_log_form.specs.declared.header.Header.{Header}
 use Rattle.acceptor_log_form.specs.declared.record.Record.{Record}
 use Rattle.acceptor_log_form.specs.Leaves.{proposed_in}
@@ -69,9 +70,8 @@ stays_run Expressions s t stays = stays.run.of_run
 stays_run Allocation s t stays = stays.run.of_run
 stays_run Order s t stays = stays.run.of_run
 
-module _ {D X T1 T2 T3 T4 : Type 0} (texts : Texts T1 T2 T3 T4) (is_honest : D → Type 0) (seen : D → List ℕ) (may_leave : D → List ℕ → Type 0) (moment : D → ℕ)
-    (left_since : D → ℕ → List ℕ → Type 0) (faults : D → ℕ) (f : X → Four T1 T2 T3 T4) (old new : Log D) (room : ℕ) (xs ys : List X) (was : Option Halted)
-    (served : IsServed is_honest seen may_leave faults old new) (sound : IsSoundBy texts is_honest seen may_leave old (map f xs) was)
+module _ {D X T1 T2 T3 T4 : Type 0} (texts : Texts T1 T2 T3 T4) (disk : disks.Ghosts D) (f : X → Four T1 T2 T3 T4) (old new : Log D) (room : ℕ) (xs ys : List X) (was : Option Halted)
+    (served : IsServed disk old new) (sound : IsSoundBy texts disk old (map f xs) was)
     (low : function_of room < length xs) (none : was ≡ None) (count : length ys ≡ length xs)
     (others : (g : ℕ) → g ≢ function_of room → slice_get ys g ≡ slice_get xs g)
     (stay : (x y : X) → slice_get xs (function_of room) ≡ Some x → slice_get ys (function_of room) ≡ Some y → OthersStay (pass_of room) (f x) (f y))
@@ -79,17 +79,17 @@ module _ {D X T1 T2 T3 T4 : Type 0} (texts : Texts T1 T2 T3 T4) (is_honest : D �
   numbers : (x y : X) → slice_get xs (function_of room) ≡ Some x → slice_get ys (function_of room) ≡ Some y → IsOfOneNode (words_of (f x) (pass_of room)) (words_of (f y) (pass_of room))
   numbers x y p q = stays_node (pass_of room) (f x) (f y) (stays x y p q)
 
-  stood : is_honest old.disk → Leave texts (map f xs) (acknowledged seen old)
+  stood : disk.is_honest old.disk → Leave texts (map f xs) (acknowledged disk.seen old)
   stood honest = let u = sound.upto honest in subst (λ (rs : List Record). Leave texts (map f xs) rs) (u.2 none) u.1.leave
 
-  stood_named : is_honest old.disk → AreOf (4 * length xs) (acknowledged seen old)
+  stood_named : disk.is_honest old.disk → AreOf (4 * length xs) (acknowledged disk.seen old)
   stood_named honest =
       let u = sound.upto honest in
       subst (λ (rs : List Record). AreOf (4 * length xs) rs) (u.2 none)
       (subst (λ (n : ℕ). AreOf (4 * n) u.0) (map_length f xs) u.1.named)
 
-  named_now : (s t : SeatState) (upto pending : List Record) → JournalAdvances seen may_leave moment left_since old new room s t upto pending
-      → is_honest old.disk → AreOf (4 * length (map f ys)) upto
+  named_now : (s t : SeatState) (upto pending : List Record) → JournalAdvances disk old new room s t upto pending
+      → disk.is_honest old.disk → AreOf (4 * length (map f ys)) upto
   named_now s t upto pending advances honest =
       let below : room < 4 * length xs = omega arith in
       subst (λ (n : ℕ). AreOf (4 * n) upto) (sym (map_length f ys ∙ count)) (advances.named (4 * length xs) below (stood_named honest))
@@ -120,24 +120,24 @@ module _ {D X T1 T2 T3 T4 : Type 0} (texts : Texts T1 T2 T3 T4) (is_honest : D �
       (λ m w. IsOfRun w) (λ m w. IsOfRun w) (stays_run (pass_of room) (f x.0) (f y.0) (stays x.0 y.0 x.1 y.1)) (λ m w other e. e) sound.of_runs
 
   -- the room's records before are in order
-  ordered : is_honest old.disk → (x : X) → slice_get xs (function_of room) ≡ Some x → AreOrdered (4 * length xs) room (words_of (f x) (pass_of room)) (acknowledged seen old)
+  ordered : disk.is_honest old.disk → (x : X) → slice_get xs (function_of room) ≡ Some x → AreOrdered (4 * length xs) room (words_of (f x) (pass_of room)) (acknowledged disk.seen old)
   ordered honest x p =
       let u = sound.upto honest in
       let at = map_at f xs (function_of room) x p in
-      let nothing : u.0 ++ pending_in (map f xs) was ≡ acknowledged seen old =
+      let nothing : u.0 ++ pending_in (map f xs) was ≡ acknowledged disk.seen old =
       ap (λ (h : Option Halted). u.0 ++ pending_in (map f xs) h) none ∙ (append-nil u.0 ∙ u.2 none) in
       record {
-        in_order = subst (λ (n : ℕ). AreInOrder n (words_of (f x) (pass_of room)).node.me (4 * length xs) (acknowledged seen old)) (sym (ap (λ (q : Sizes). q.nodes) (sound.own.quorums room (f x) at)))
-            (subst (λ (i : ℕ). AreInOrder old.header.nodes i (4 * length xs) (acknowledged seen old)) (sym (sound.own.me room (f x) at))
+        in_order = subst (λ (n : ℕ). AreInOrder n (words_of (f x) (pass_of room)).node.me (4 * length xs) (acknowledged disk.seen old)) (sym (ap (λ (q : Sizes). q.nodes) (sound.own.quorums room (f x) at)))
+            (subst (λ (i : ℕ). AreInOrder old.header.nodes i (4 * length xs) (acknowledged disk.seen old)) (sym (sound.own.me room (f x) at))
             (subst (λ (rs : List Record). AreInOrder old.header.nodes old.header.node (4 * length xs) rs) nothing
             (subst (λ (n : ℕ). AreInOrder old.header.nodes old.header.node (4 * n) (u.0 ++ pending_in (map f xs) was)) (map_length f xs) u.1.in_order)));
         kept = (stood honest).rooms room (f x) at;
         unproposed = subst (λ (rs : List Record). IsUnproposed (proposed_in rs room) (words_of (f x) (pass_of room))) (u.2 none) (u.1.unproposed room (f x) at);
       }
 
-  module _ (honest : is_honest old.disk) (x y : X) (p : slice_get xs (function_of room) ≡ Some x) (q : slice_get ys (function_of room) ≡ Some y) (halted : Option Halted) (upto pending : List Record)
-      (advances : JournalAdvances seen may_leave moment left_since old new room (words_of (f x) (pass_of room)) (words_of (f y) (pass_of room)) upto pending)
-      (told : TellNew (IsOwnTextIn texts (pass_of room) (f y)) room (words_of (f x) (pass_of room)) (words_of (f y) (pass_of room)) (acknowledged seen old) upto)
+  module _ (honest : disk.is_honest old.disk) (x y : X) (p : slice_get xs (function_of room) ≡ Some x) (q : slice_get ys (function_of room) ≡ Some y) (halted : Option Halted) (upto pending : List Record)
+      (advances : JournalAdvances disk old new room (words_of (f x) (pass_of room)) (words_of (f y) (pass_of room)) upto pending)
+      (told : TellNew (IsOwnTextIn texts (pass_of room) (f y)) room (words_of (f x) (pass_of room)) (words_of (f y) (pass_of room)) (acknowledged disk.seen old) upto)
       (same : pending ≡ pending_in (map f ys) halted) where
     low_room : room < 4 * length xs
     low_room = omega arith
@@ -149,7 +149,7 @@ module _ {D X T1 T2 T3 T4 : Type 0} (texts : Texts T1 T2 T3 T4) (is_honest : D �
         let before = ordered honest x p in
         stands_turned room (map f xs) (map f ys) (f x) (f y)
         (map_at f xs (function_of room) x p) (map_at f ys (function_of room) y q)
-        (λ g other. map_same f ys xs g (others g other)) (stay x y p q) texts (acknowledged seen old) upto (stood honest) (stays x y p q)
+        (λ g other. map_same f ys xs g (others g other)) (stay x y p q) texts (acknowledged disk.seen old) upto (stood honest) (stays x y p q)
         (words_of (f y) (pass_of room)).node.quorums.nodes (words_of (f y) (pass_of room)).node.me (4 * length xs)
         (advances.order (4 * length xs) low_room before).0.in_order advances.longer (told (4 * length xs) low_room before)
         advances.kept advances.others
@@ -171,26 +171,26 @@ module _ {D X T1 T2 T3 T4 : Type 0} (texts : Texts T1 T2 T3 T4) (is_honest : D �
     unproposed_now =
         turned_rooms room (map f xs) (map f ys) (f x) (f y) (map_at f xs (function_of room) x p) (map_at f ys (function_of room) y q)
         (λ g other. map_same f ys xs g (others g other)) (stay x y p q)
-        (λ m w. IsUnproposed (proposed_in (acknowledged seen old) m) w) (λ m w. IsUnproposed (proposed_in upto m) w)
+        (λ m w. IsUnproposed (proposed_in (acknowledged disk.seen old) m) w) (λ m w. IsUnproposed (proposed_in upto m) w)
         (λ fresh. (advances.order (4 * length xs) low_room (ordered honest x p)).0.unproposed)
         (λ m w other fresh. subst (λ (l : ℕ). IsUnproposed l w) (sym (advances.proposals m other)) fresh)
         (λ m u e. let before = sound.upto honest in subst (λ (rs : List Record). IsUnproposed (proposed_in rs m) (words_of u (pass_of m))) (before.2 none) (before.1.unproposed m u e))
 
-    turned : (halted ≡ None → upto ≡ acknowledged seen new) → TurnsBy texts seen may_leave moment left_since old new (map f ys) halted
+    turned : (halted ≡ None → upto ≡ acknowledged disk.seen new) → TurnsBy texts disk old new (map f ys) halted
     turned all =
-        turns_into texts seen may_leave moment left_since old new (map f ys) halted room (words_of (f x) (pass_of room)) (words_of (f y) (pass_of room)) upto pending
+        turns_into texts disk old new (map f ys) halted room (words_of (f x) (pass_of room)) (words_of (f y) (pass_of room)) upto pending
         served.header advances same stands_now
         (named_now (words_of (f x) (pass_of room)) (words_of (f y) (pass_of room)) upto pending advances honest) order_now unproposed_now all
 
   pub into : (result : Result Progress Halt)
-      → (is_honest old.disk → old.going ≡ true → (x y : X) → slice_get xs (function_of room) ≡ Some x → slice_get ys (function_of room) ≡ Some y
-      → PlayedIn texts is_honest seen may_leave moment left_since old new room result (f x) (f y))
-      → is_honest old.disk → TurnsBy texts seen may_leave moment left_since old new (map f ys) (halted_by room result)
+      → (disk.is_honest old.disk → old.going ≡ true → (x y : X) → slice_get xs (function_of room) ≡ Some x → slice_get ys (function_of room) ≡ Some y
+      → PlayedIn texts disk old new room result (f x) (f y))
+      → disk.is_honest old.disk → TurnsBy texts disk old new (map f ys) (halted_by room result)
   into (Ok progress) journal honest =
       let x = found xs (function_of room) low in
       let y = found ys (function_of room) (subst (λ (n : ℕ). function_of room < n) (sym count) low) in
       let played = journal honest (sound.going none) x.0 y.0 x.1 y.1 in
-      turned honest x.0 y.0 x.1 y.1 None (acknowledged seen new) [] played.1.advances played.2 refl (λ e. refl)
+      turned honest x.0 y.0 x.1 y.1 None (acknowledged disk.seen new) [] played.1.advances played.2 refl (λ e. refl)
   into (Err halt) journal honest =
       let x = found xs (function_of room) low in
       let y = found ys (function_of room) (subst (λ (n : ℕ). function_of room < n) (sym count) low) in
@@ -200,10 +200,10 @@ module _ {D X T1 T2 T3 T4 : Type 0} (texts : Texts T1 T2 T3 T4) (is_honest : D �
       (λ e. absurd (cc))
 
   pub sound_now : (result : Result Progress Halt)
-      → (is_honest old.disk → old.going ≡ true → (x y : X) → slice_get xs (function_of room) ≡ Some x → slice_get ys (function_of room) ≡ Some y
-      → PlayedIn texts is_honest seen may_leave moment left_since old new room result (f x) (f y))
+      → (disk.is_honest old.disk → old.going ≡ true → (x y : X) → slice_get xs (function_of room) ≡ Some x → slice_get ys (function_of room) ≡ Some y
+      → PlayedIn texts disk old new room result (f x) (f y))
       → IfOk result (λ progress. new.going ≡ old.going)
-      → IsSoundBy texts is_honest seen may_leave new (map f ys) (halted_by room result)
+      → IsSoundBy texts disk new (map f ys) (halted_by room result)
   sound_now (Ok progress) journal went = record {
     journal = served.sound;
     going = λ e. went ∙ sound.going none;
@@ -220,18 +220,18 @@ module _ {D X T1 T2 T3 T4 : Type 0} (texts : Texts T1 T2 T3 T4) (is_honest : D �
   }
 
   pub told_now : (progress : Progress)
-      → (is_honest old.disk → old.going ≡ true → (x y : X) → slice_get xs (function_of room) ≡ Some x → slice_get ys (function_of room) ≡ Some y
-      → PlayedIn texts is_honest seen may_leave moment left_since old new room (Ok progress) (f x) (f y))
-      → is_honest old.disk → (x y : X) → slice_get xs (function_of room) ≡ Some x → slice_get ys (function_of room) ≡ Some y
-      → turn_of progress ≡ turn_of (progress_of (words_of (f x) (pass_of room)).node.learned (words_of (f y) (pass_of room)).node.learned (ltb (length (acknowledged seen old)) (length (acknowledged seen new))))
+      → (disk.is_honest old.disk → old.going ≡ true → (x y : X) → slice_get xs (function_of room) ≡ Some x → slice_get ys (function_of room) ≡ Some y
+      → PlayedIn texts disk old new room (Ok progress) (f x) (f y))
+      → disk.is_honest old.disk → (x y : X) → slice_get xs (function_of room) ≡ Some x → slice_get ys (function_of room) ≡ Some y
+      → turn_of progress ≡ turn_of (progress_of (words_of (f x) (pass_of room)).node.learned (words_of (f y) (pass_of room)).node.learned (ltb (length (acknowledged disk.seen old)) (length (acknowledged disk.seen new))))
   told_now progress journal honest x y p q =
       let played = journal honest (sound.going none) x y p q in
       ap turn_of (played.3 ∙ ap (λ (m : Bool). progress_of (words_of (f x) (pass_of room)).node.learned (words_of (f y) (pass_of room)).node.learned m) played.1.moved)
 
 -- the cause, with the pending record as the stopped node tells it
-pub stops_for : {D X T1 T2 T3 T4 : Type 0} (is_honest : D → Type 0) (faults : D → ℕ) (f : X → Four T1 T2 T3 T4) (TooLarge : Type 0) (old new : Log D) (room : ℕ) (ys : List X) (halt : Halt) (y : X)
+pub stops_for : {D X T1 T2 T3 T4 : Type 0} (disk : disks.Ghosts D) (f : X → Four T1 T2 T3 T4) (TooLarge : Type 0) (old new : Log D) (room : ℕ) (ys : List X) (halt : Halt) (y : X)
     → slice_get ys (function_of room) ≡ Some y
-    → HasHaltCause is_honest faults TooLarge old new (left_over room (words_of (f y) (pass_of room)) halt.pending) halt.fault
-    → HasHaltCause is_honest faults TooLarge old new (left_in (slice_get (map f ys) (function_of room)) room halt.pending) halt.fault
-stops_for {D} {X} {T1} {T2} {T3} {T4} is_honest faults f TooLarge old new room ys halt y is cause =
-    subst (λ (o : Option (Four T1 T2 T3 T4)). HasHaltCause is_honest faults TooLarge old new (left_in o room halt.pending) halt.fault) (sym (map_at f ys (function_of room) y is)) cause
+    → HasHaltCause disk TooLarge old new (left_over room (words_of (f y) (pass_of room)) halt.pending) halt.fault
+    → HasHaltCause disk TooLarge old new (left_in (slice_get (map f ys) (function_of room)) room halt.pending) halt.fault
+stops_for {D} {X} {T1} {T2} {T3} {T4} disk f TooLarge old new room ys halt y is cause =
+    subst (λ (o : Option (Four T1 T2 T3 T4)). HasHaltCause disk TooLarge old new (left_in o room halt.pending) halt.fault) (sym (map_at f ys (function_of room) y is)) cause

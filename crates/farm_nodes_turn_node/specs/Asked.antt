@@ -9,5 +9,5 @@ use Rattle.farm_nodes_turn_node.specs.Waiting.{IsWaiting}
 -- its journal stands for what its seats keep, and what it has not done may still be done
 abbrev pub MayBeAsked : {D : Type 0} → disks.Ghosts D → {O H : Type 0} {h : naming.Ghosts H} → FarmNode D O H h → Type 0
 MayBeAsked disk node =
-    IsSoundNode disk.is_honest disk.seen disk.may_leave node.log (fours_of node.seats.items) node.halted
+    IsSoundNode disk node.log (fours_of node.seats.items) node.halted
     × IsWaiting node.seats.items node.halted

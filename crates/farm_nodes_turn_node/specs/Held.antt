@@ -1,6 +1,7 @@
 -- What a node holds, and that its journal stands for what its seats keep.
 use Rattle.std.specs.Prelude.{◌≡◌, ℕ, ◌*◌, true, List, [], ◌++◌, length, Option, Some, None, option_map, slice_get}
 use Rattle.paxos_core_world.specs.Quorum.{sizes, Sizes}
+use Rattle.durable_model.specs.declared.disk.Disk as disks
 use Rattle.acceptor_log_form.specs.declared.header.Header.{Header}
 use Rattle.acceptor_log_form.specs.declared.record.Record.{Record}
 use Rattle.acceptor_log_form.specs.Leaves.{proposed_in}
@@ -49,26 +50,26 @@ module _ {T1 T2 T3 T4 : Type 0} where
 
   -- The journal stands for what the node keeps and has offered, with the pending record or without, and names no room but the seats'. Its records
   -- are in order, the pending one behind them too, and no seat proposes anything again.
-  pub record IsJournalOf {D : Type 0} (texts : Texts T1 T2 T3 T4) (may_leave : D → List ℕ → Type 0) (log : Log D) (seats : List (Four T1 T2 T3 T4))
+  pub record IsJournalOf {D : Type 0} (texts : Texts T1 T2 T3 T4) (disk : disks.Ghosts D) (log : Log D) (seats : List (Four T1 T2 T3 T4))
       (halted : Option Halted) (upto : List Record) : Type 0 where
     pub leave : Leave texts seats upto
     pub named : AreOf (4 * length seats) upto
     pub in_order : AreInOrder log.header.nodes log.header.node (4 * length seats) (upto ++ pending_in seats halted)
     pub unproposed : AreUnproposed seats upto
-    pub left : (c : List ℕ) → may_leave log.disk c → Either log.header upto (upto ++ pending_in seats halted) c
+    pub left : (c : List ℕ) → disk.may_leave log.disk c → Either log.header upto (upto ++ pending_in seats halted) c
 
   -- A node that may be asked: its journal may be used and stands for what it keeps, its seats are its own, each of its run; where it is not stopped, the
   -- journal goes on, and has acknowledged just that.
-  pub record IsSoundBy {D : Type 0} (texts : Texts T1 T2 T3 T4) (is_honest : D → Type 0) (seen : D → List ℕ) (may_leave : D → List ℕ → Type 0)
+  pub record IsSoundBy {D : Type 0} (texts : Texts T1 T2 T3 T4) (disk : disks.Ghosts D)
       (log : Log D) (seats : List (Four T1 T2 T3 T4)) (halted : Option Halted) : Type 0 where
-    pub journal : journal.IsSound is_honest seen may_leave log
+    pub journal : journal.IsSound disk log
     pub going : halted ≡ None → log.going ≡ true
     pub own : AreSeatsOf log.header seats
     pub of_runs : AreOfRuns seats
-    pub upto : is_honest log.disk → (upto : List Record)
-        × IsJournalOf texts may_leave log seats halted upto × (halted ≡ None → upto ≡ acknowledged seen log)
+    pub upto : disk.is_honest log.disk → (upto : List Record)
+        × IsJournalOf texts disk log seats halted upto × (halted ≡ None → upto ≡ acknowledged disk.seen log)
 
 -- the same with the texts of the passes' offers as they are
-abbrev pub IsSoundNode : {D : Type 0} → (D → Type 0) → (D → List ℕ) → (D → List ℕ → Type 0) → Log D
+abbrev pub IsSoundNode : {D : Type 0} → disks.Ghosts D → Log D
     → List (Four ConstantsOffer ExpressionsOffer AllocationOffer OrderOffer) → Option Halted → Type 0
-IsSoundNode is_honest seen may_leave log seats halted = IsSoundBy pass_texts is_honest seen may_leave log seats halted
+IsSoundNode disk log seats halted = IsSoundBy pass_texts disk log seats halted

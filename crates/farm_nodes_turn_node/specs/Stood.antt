@@ -1,5 +1,6 @@
 -- What stands behind a turn of a node: what it tells, why it is stopped, and what its journal holds.
 use Rattle.std.specs.Prelude.{◌≡◌, ℕ, nat_lt, List, ◌++◌, length, Option, Some, None, slice_get, IfSome}
+use Rattle.durable_model.specs.declared.disk.Disk as disks
 use Rattle.durable_model.specs.Moments.{LeavesOnly}
 use Rattle.acceptor_log_form.specs.declared.record.Record.{Record}
 use Rattle.acceptor_log_form.specs.Lists.{Begins, Between}
@@ -23,9 +24,9 @@ At {X} f P at xs = (x : X) → slice_get xs at ≡ Some x → P (f x)
 
 module _ {D T1 T2 T3 T4 : Type 0} where
   -- why a node is stopped, where it is
-  abbrev pub Stops : (D → Type 0) → (D → ℕ) → (Four T1 T2 T3 T4 → Type 0) → Log D → Log D → List Record → Option Fault → Four T1 T2 T3 T4 → Four T1 T2 T3 T4 → Type 0
-  Stops is_honest faults TooLarge old new pending failure s t =
-      IfSome failure (λ fault. HasHaltCause is_honest faults (TooLarge s) old new pending fault)
+  abbrev pub Stops : disks.Ghosts D → (Four T1 T2 T3 T4 → Type 0) → Log D → Log D → List Record → Option Fault → Four T1 T2 T3 T4 → Four T1 T2 T3 T4 → Type 0
+  Stops disk TooLarge old new pending failure s t =
+      IfSome failure (λ fault. HasHaltCause disk (TooLarge s) old new pending fault)
 
   -- What it tells is what was learned in the turn, and whether the journal has more records.
   abbrev pub IsToldOfTurn : (D → List ℕ) → Log D → Log D → Which → Turn → Four T1 T2 T3 T4 → Four T1 T2 T3 T4 → Type 0
@@ -36,16 +37,15 @@ module _ {D T1 T2 T3 T4 : Type 0} where
   -- From the old journal, which stood for what the node kept, to the new one: that stands for what it keeps now, as the records do
   -- that were acknowledged before and a list of this turn's behind them. A crash at any moment of the turn leaves the journal from
   -- before with a beginning of those and of the pending one.
-  pub record TurnsBy (texts : Texts T1 T2 T3 T4) (seen : D → List ℕ) (may_leave : D → List ℕ → Type 0) (moment : D → ℕ)
-      (left_since : D → ℕ → List ℕ → Type 0) (old new : Log D) (seats : List (Four T1 T2 T3 T4)) (halted : Option Halted) : Type 0 where
+  pub record TurnsBy (texts : Texts T1 T2 T3 T4) (disk : disks.Ghosts D) (old new : Log D) (seats : List (Four T1 T2 T3 T4)) (halted : Option Halted) : Type 0 where
     pub upto : List Record
-    pub longer : Begins (acknowledged seen old) upto
-    pub stands : IsJournalOf texts may_leave new seats halted upto
-    pub all : halted ≡ None → upto ≡ acknowledged seen new
-    pub any_moment : LeavesOnly moment left_since old.disk new.disk
-        (Between old.header (acknowledged seen old) (upto ++ pending_in seats halted))
+    pub longer : Begins (acknowledged disk.seen old) upto
+    pub stands : IsJournalOf texts disk new seats halted upto
+    pub all : halted ≡ None → upto ≡ acknowledged disk.seen new
+    pub any_moment : LeavesOnly disk.moment disk.left_since old.disk new.disk
+        (Between old.header (acknowledged disk.seen old) (upto ++ pending_in seats halted))
 
 -- the same with the texts of the passes' offers as they are
-abbrev pub TurnsInto : {D : Type 0} → (D → List ℕ) → (D → List ℕ → Type 0) → (D → ℕ) → (D → ℕ → List ℕ → Type 0) → Log D → Log D
+abbrev pub TurnsInto : {D : Type 0} → disks.Ghosts D → Log D → Log D
     → List (Four ConstantsOffer ExpressionsOffer AllocationOffer OrderOffer) → Option Halted → Type 0
-TurnsInto seen may_leave moment left_since old new seats halted = TurnsBy pass_texts seen may_leave moment left_since old new seats halted
+TurnsInto disk old new seats halted = TurnsBy pass_texts disk old new seats halted

@@ -53,7 +53,7 @@ module _ {D O H : Type 0} {h : naming.Ghosts H} where
     -- why the turn failed, where it did
     abbrev pub FailsFor : ℕ → FarmNode D O H h → FarmNode D O H h → Turn → FunctionData → OfSeats
     FailsFor room old new told function =
-        Stops disk.is_honest disk.faults (IsTooLargeFor function (pass_of room)) old.log new.log
+        Stops disk (IsTooLargeFor function (pass_of room)) old.log new.log
         (pending_in (fours_of new.seats.items) new.halted) (failure_of told)
 
     -- A node that was not stopped tells the fault that stops it, and there is a cause for that; where it goes on it tells the value that it
@@ -66,4 +66,4 @@ module _ {D O H : Type 0} {h : naming.Ghosts H} where
     -- its journal stands for what it keeps now, and a crash within the turn leaves a beginning of its records
     abbrev pub JournalTurns : FarmNode D O H h → FarmNode D O H h → Type 0
     JournalTurns old new =
-        TurnsInto disk.seen disk.may_leave disk.moment disk.left_since old.log new.log (fours_of new.seats.items) new.halted
+        TurnsInto disk old.log new.log (fours_of new.seats.items) new.halted

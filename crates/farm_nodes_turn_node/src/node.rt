@@ -22,7 +22,7 @@ impl<D: Disk, O: Oracles, H: Naming> FarmNode<D, O, H> {
         requires asked { MayBeAsked D.Disk self.old }
         requires room { function_of room < length self.old.seats.items }
         ensures asked { MayBeAsked D.Disk self.new }
-        ensures served { IsServed D.is_honest D.seen D.may_leave D.faults self.old.log self.new.log }
+        ensures served { IsServed D.Disk self.old.log self.new.log }
 
         // A stopped node does nothing, and answers 405.
         ensures stopped { self.old.halted ≢ None → DoesNothing self.old self.new result }

@@ -1,6 +1,7 @@
 -- What a call leaves of the journal that does nothing, that offers, or that halts.
 use Rattle.std.proofs.Common.{◌≡◌, ℕ, ◌<◌, Bool, true, false, List, [], ◌∷◌, ◌++◌, Option, Some, sym, ap, ◌∙◌, subst}
 use Rattle.paxos_core_world.specs.KeptPart.{KeptPart}
+use Rattle.durable_model.specs.declared.disk.Disk as disks
 use Rattle.acceptor_log_form.specs.declared.errors.LogError.{LogError}
 use Rattle.acceptor_log_form.specs.declared.errors.LogError.TheVariants as log
 use Rattle.acceptor_log_form.specs.declared.record.Record.{Record}
@@ -68,65 +69,65 @@ tell_offered {T} IsText room text x r s t before upto is has told added rooms lo
 )
 
 -- the journal's cause is a cause of the fault that its answer is
-pub halt_cause : {D : Type 0} (is_honest : D → Type 0) (faults : D → ℕ) (TooLarge : Type 0) (old new : Log D) (pending : List Record) (e : LogError)
-    → HasCause is_honest faults old new pending e → HasHaltCause is_honest faults TooLarge old new pending (fault_by_journal e)
-halt_cause is_honest faults TooLarge old new pending log.NoMemory cause = tt
-halt_cause is_honest faults TooLarge old new pending log.Device cause = cause
-halt_cause is_honest faults TooLarge old new pending log.NotAJournal cause = cause
-halt_cause is_honest faults TooLarge old new pending log.BadRecord cause = cause
-halt_cause is_honest faults TooLarge old new pending log.OtherSource cause = cause
-halt_cause is_honest faults TooLarge old new pending log.Stopped cause = cause
-halt_cause is_honest faults TooLarge old new pending log.Full cause = cause
+pub halt_cause : {D : Type 0} (disk : disks.Ghosts D) (TooLarge : Type 0) (old new : Log D) (pending : List Record) (e : LogError)
+    → HasCause disk old new pending e → HasHaltCause disk TooLarge old new pending (fault_by_journal e)
+halt_cause disk TooLarge old new pending log.NoMemory cause = tt
+halt_cause disk TooLarge old new pending log.Device cause = cause
+halt_cause disk TooLarge old new pending log.NotAJournal cause = cause
+halt_cause disk TooLarge old new pending log.BadRecord cause = cause
+halt_cause disk TooLarge old new pending log.OtherSource cause = cause
+halt_cause disk TooLarge old new pending log.Stopped cause = cause
+halt_cause disk TooLarge old new pending log.Full cause = cause
 
-module _ {D : Type 0} (is_honest : D → Type 0) (seen : D → List ℕ) (may_leave : D → List ℕ → Type 0) (moment : D → ℕ) (left_since : D → ℕ → List ℕ → Type 0) where
+module _ {D : Type 0} (disk : disks.Ghosts D) where
   abbrev pub Left : (List ℕ → Type 0) → Log D → Log D → ℕ → SeatState → SeatState → List Record → Type 0
-  Left Is old new room s t pending = HasLeft Is seen may_leave moment left_since old new room s t pending
+  Left Is old new room s t pending = HasLeft Is disk old new room s t pending
 
   -- nothing was done
-  pub idle_grown : (log : Log D) (room : ℕ) (s : SeatState) → IsReady is_honest seen may_leave log
-      → ((c : List ℕ) → left_since log.disk (moment log.disk) c → may_leave log.disk c)
-      → Grown is_honest seen may_leave moment left_since log log room s s false
+  pub idle_grown : (log : Log D) (room : ℕ) (s : SeatState) → IsReady disk log
+      → ((c : List ℕ) → disk.left_since log.disk (disk.moment log.disk) c → disk.may_leave log.disk c)
+      → Grown disk log log room s s false
   idle_grown log room s ready now = record {
     ready = ready;
-    advances = none seen may_leave moment left_since is_honest log room s ready now;
-    moved = no_more (acknowledged seen log);
+    advances = none disk log room s ready now;
+    moved = no_more (acknowledged disk.seen log);
   }
 
-  pub nothing_left : (Is : List ℕ → Type 0) (log : Log D) (room : ℕ) (s : SeatState) → IsReady is_honest seen may_leave log
-      → ((c : List ℕ) → left_since log.disk (moment log.disk) c → may_leave log.disk c)
+  pub nothing_left : (Is : List ℕ → Type 0) (log : Log D) (room : ℕ) (s : SeatState) → IsReady disk log
+      → ((c : List ℕ) → disk.left_since log.disk (disk.moment log.disk) c → disk.may_leave log.disk c)
       → Left Is log log room s s []
-  nothing_left Is log room s ready now = (acknowledged seen log, none seen may_leave moment left_since is_honest log room s ready now, tell_none Is room s (acknowledged seen log) (acknowledged seen log))
+  nothing_left Is log room s ready now = (acknowledged disk.seen log, none disk log room s ready now, tell_none Is room s (acknowledged disk.seen log) (acknowledged disk.seen log))
 
   -- a call that makes no offer leaves what was told of one
   tell_on : (Is Now : List ℕ → Type 0) (old mid new : Log D) (room : ℕ) (s m t : SeatState) (upto pending : List Record)
-      → JournalAdvances seen may_leave moment left_since old mid room s m (acknowledged seen mid) [] → JournalAdvances seen may_leave moment left_since mid new room m t upto pending
-      → t.node.kept.offered ≡ m.node.kept.offered → ((text : List ℕ) → Is text → Now text) → TellNew Is room s m (acknowledged seen old) (acknowledged seen mid)
-      → TellNew Now room s t (acknowledged seen old) upto
+      → JournalAdvances disk old mid room s m (acknowledged disk.seen mid) [] → JournalAdvances disk mid new room m t upto pending
+      → t.node.kept.offered ≡ m.node.kept.offered → ((text : List ℕ) → Is text → Now text) → TellNew Is room s m (acknowledged disk.seen old) (acknowledged disk.seen mid)
+      → TellNew Now room s t (acknowledged disk.seen old) upto
   tell_on Is Now old mid new room s m t upto pending first second same stays told rooms low ordered before now =
       let had : m.node.kept.offered ≡ true = sym same ∙ now in
       let is = told rooms low ordered before had in
       let between = (first.order rooms low ordered).0 in
       let after = (second.order rooms low between).0 in (
         is.0,
-        offer_stays t.node.quorums.nodes t.node.me rooms room (acknowledged seen mid) upto second.longer after.in_order (ap (λ (k : KeptPart). k.offered) between.kept ∙ had) ∙ is.1,
+        offer_stays t.node.quorums.nodes t.node.me rooms room (acknowledged disk.seen mid) upto second.longer after.in_order (ap (λ (k : KeptPart). k.offered) between.kept ∙ had) ∙ is.1,
         stays is.0 is.2,
       )
 
   -- a call that makes none behind a call that went on
   pub told_after : (Is Now : List ℕ → Type 0) (old mid new : Log D) (room : ℕ) (s m t : SeatState) (a b : Bool)
-      → Grown is_honest seen may_leave moment left_since old mid room s m a → Grown is_honest seen may_leave moment left_since mid new room m t b
-      → t.node.kept.offered ≡ m.node.kept.offered → ((text : List ℕ) → Is text → Now text) → TellNew Is room s m (acknowledged seen old) (acknowledged seen mid)
-      → TellNew Now room s t (acknowledged seen old) (acknowledged seen new)
+      → Grown disk old mid room s m a → Grown disk mid new room m t b
+      → t.node.kept.offered ≡ m.node.kept.offered → ((text : List ℕ) → Is text → Now text) → TellNew Is room s m (acknowledged disk.seen old) (acknowledged disk.seen mid)
+      → TellNew Now room s t (acknowledged disk.seen old) (acknowledged disk.seen new)
   told_after Is Now old mid new room s m t a b first second same stays told =
-      tell_on Is Now old mid new room s m t (acknowledged seen new) [] first.advances second.advances same stays told
+      tell_on Is Now old mid new room s m t (acknowledged disk.seen new) [] first.advances second.advances same stays told
 
   -- a halt behind a call that went on
   pub left_after : (Is Now : List ℕ → Type 0) (old mid new : Log D) (room : ℕ) (s m t : SeatState) (a : Bool) (pending : List Record) → mid.header ≡ old.header
-      → Grown is_honest seen may_leave moment left_since old mid room s m a
-      → t.node.kept.offered ≡ m.node.kept.offered → ((text : List ℕ) → Is text → Now text) → TellNew Is room s m (acknowledged seen old) (acknowledged seen mid)
-      → (upto : List Record) × JournalAdvances seen may_leave moment left_since mid new room m t upto pending → Left Now old new room s t pending
+      → Grown disk old mid room s m a
+      → t.node.kept.offered ≡ m.node.kept.offered → ((text : List ℕ) → Is text → Now text) → TellNew Is room s m (acknowledged disk.seen old) (acknowledged disk.seen mid)
+      → (upto : List Record) × JournalAdvances disk mid new room m t upto pending → Left Now old new room s t pending
   left_after Is Now old mid new room s m t a pending header first same stays told second = (
     second.0,
-    then seen may_leave moment left_since old mid new room s m t second.0 pending header first.advances second.1,
+    then disk old mid new room s m t second.0 pending header first.advances second.1,
     tell_on Is Now old mid new room s m t second.0 pending first.advances second.1 same stays told,
   )

@@ -43,34 +43,32 @@ left_over room s (Some p) = pending_of room s p
 
 -- The records up to some place stand for what the node keeps, and behind them may stand those that are pending. An offer
 -- that was made is told, by a text that is so.
-abbrev pub HasLeft : {D : Type 0} → (List ℕ → Type 0) → (D → List ℕ) → (D → List ℕ → Type 0) → (D → ℕ)
-    → (D → ℕ → List ℕ → Type 0) → Log D → Log D → ℕ → SeatState → SeatState → List Record → Type 0
-HasLeft Is seen may_leave moment left_since old new room s t pending =
-    (upto : List Record) × JournalAdvances seen may_leave moment left_since old new room s t upto pending
-    × TellNew Is room s t (acknowledged seen old) upto
+abbrev pub HasLeft : {D : Type 0} → (List ℕ → Type 0) → disks.Ghosts D → Log D → Log D → ℕ → SeatState → SeatState → List Record → Type 0
+HasLeft Is disk old new room s t pending =
+    (upto : List Record) × JournalAdvances disk old new room s t upto pending
+    × TellNew Is room s t (acknowledged disk.seen old) upto
 
 -- What a call leaves of the journal, by its result.
-abbrev pub Recorded : {D : Type 0} → (List ℕ → Type 0) → (D → Type 0) → (D → List ℕ) → (D → List ℕ → Type 0) → (D → ℕ)
-    → (D → ℕ → List ℕ → Type 0) → Log D → Log D → ℕ → SeatState → SeatState → Result Bool Halt → Type 0
-Recorded Is is_honest seen may_leave moment left_since old new room s t (Ok moved) =
-    HasGrown is_honest seen may_leave moment left_since old new room s t moved
-    × TellNew Is room s t (acknowledged seen old) (acknowledged seen new)
-Recorded Is is_honest seen may_leave moment left_since old new room s t (Err halt) =
-    HasLeft Is seen may_leave moment left_since old new room s t (left_over room t halt.pending)
+abbrev pub Recorded : {D : Type 0} → (List ℕ → Type 0) → disks.Ghosts D → Log D → Log D → ℕ → SeatState → SeatState → Result Bool Halt → Type 0
+Recorded Is disk old new room s t (Ok moved) =
+    HasGrown disk old new room s t moved
+    × TellNew Is room s t (acknowledged disk.seen old) (acknowledged disk.seen new)
+Recorded Is disk old new room s t (Err halt) =
+    HasLeft Is disk old new room s t (left_over room t halt.pending)
 
 -- Why it halted: memory was refused, the journal refused the pending record for a cause, the input is too large, or the
 -- cell refused an offer, which is pending. Other records are told by a restart alone.
-abbrev pub HasHaltCause : {D : Type 0} → (D → Type 0) → (D → ℕ) → Type 0 → Log D → Log D → List Record → Fault → Type 0
-HasHaltCause is_honest faults TooLarge old new pending NoMemory = Unit {0}
-HasHaltCause is_honest faults TooLarge old new pending (Journal e) = HasCause is_honest faults old new pending e
-HasHaltCause is_honest faults TooLarge old new pending TooManyRegisters = TooLarge
-HasHaltCause is_honest faults TooLarge old new pending OtherRecords = ⊥
-HasHaltCause is_honest faults TooLarge old new pending CellRefused = pending ≢ []
+abbrev pub HasHaltCause : {D : Type 0} → disks.Ghosts D → Type 0 → Log D → Log D → List Record → Fault → Type 0
+HasHaltCause disk TooLarge old new pending NoMemory = Unit {0}
+HasHaltCause disk TooLarge old new pending (Journal e) = HasCause disk old new pending e
+HasHaltCause disk TooLarge old new pending TooManyRegisters = TooLarge
+HasHaltCause disk TooLarge old new pending OtherRecords = ⊥
+HasHaltCause disk TooLarge old new pending CellRefused = pending ≢ []
 
 -- so it is of a call that halted over a disk, in a room with this seat
 abbrev pub HaltsFor : {D : Type 0} → disks.Ghosts D → Type 0 → Log D → Log D → ℕ → SeatState → Halt → Type 0
 HaltsFor disk TooLarge old new room s halt =
-    HasHaltCause disk.is_honest disk.faults TooLarge old new (left_over room s halt.pending) halt.fault
+    HasHaltCause disk TooLarge old new (left_over room s halt.pending) halt.fault
 
 -- where the cell refused the offer its record is put down
 abbrev pub IsPutDown : {D : Type 0} → (D → List ℕ) → Log D → Log D → ℕ → SeatState → Halt → Type 0

@@ -24,5 +24,4 @@ module _ {P A B C I O : Type 0} (from : language.Ghosts A I) (to : language.Ghos
   abbrev pub TellsOffer : {D : Type 0} → disks.Ghosts D → Log D → Log D → ℕ → SeatValue (Parts I O C) → SeatValue (Parts I O C)
       → Result Bool Halt → Type 0
   TellsOffer disk old new room s t result =
-      WhileGoing disk.is_honest old (Recorded (IsOwnText (IsOfferText from to by) t)
-      disk.is_honest disk.seen disk.may_leave disk.moment disk.left_since old new room s.words t.words result)
+      WhileGoing disk old (Recorded (IsOwnText (IsOfferText from to by) t) disk old new room s.words t.words result)

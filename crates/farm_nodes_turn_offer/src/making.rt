@@ -29,9 +29,9 @@ pub fn make_offer<D: Disk, P: Pass>(
     room: u16,
     offer: Offer<P>,
 ) -> Result<bool, Halt>
-    requires sound { IsSound D.is_honest D.seen D.may_leave log.old }
+    requires sound { IsSound D.Disk log.old }
     requires first { seat.old.words.node.kept.offered ≡ false }
-    ensures served { IsServed D.is_honest D.seen D.may_leave D.faults log.old log.new }
+    ensures served { IsServed D.Disk log.old log.new }
     ensures going { IfOk result (λ moved. log.new.going ≡ log.old.going) }
     ensures ok { OnOk result (PutsOffer offer seat.old seat.new) }
     ensures room { IsOneRoom seat.old seat.new }
@@ -40,7 +40,7 @@ pub fn make_offer<D: Disk, P: Pass>(
     ensures err { OnErr result (seat.new ≡ seat.old) }
     ensures pending { IfErr result
         (λ halt. MayPend P.In.Language P.Out.Language P.Pass room offer halt.pending) }
-    ensures refused { WhileGoing D.is_honest log.old
+    ensures refused { WhileGoing D.Disk log.old
         (IfErr result (IsPutDown D.seen log.old log.new room seat.new.words)) }
 
     // Where it is made, its record has its text.

@@ -3,6 +3,7 @@ use Rattle.std.proofs.Common.{◌≡◌, ◌≢◌, inl, ℕ, zero, suc, ◌%◌
 use Rattle.std.proofs.lemmas.Bool.{eqb-true, eq-eqb}
 use Rattle.rand_pcg.specs.Lcg.{Lcg}
 use Rattle.rand_pcg.specs.Pcg.{pcg32}
+use Rattle.durable_model.specs.declared.disk.Disk as disks
 use Rattle.durable_model.specs.Honest.{risen_within}
 use Rattle.acceptor_log_form.specs.declared.errors.LogError.{LogError}
 use Rattle.acceptor_log_form.specs.declared.errors.LogError.TheVariants as log
@@ -200,50 +201,50 @@ module _ {I O C : Type 0} where
 
 -- ---- why it halts
 
-pub choice_cause : {D : Type 0} (is_honest : D → Type 0) (faults : D → ℕ) (TooLarge : Type 0) (old new : Log D) (pending : List Record) (f : Fault)
-    → IsChoiceFault TooLarge f → HasHaltCause is_honest faults TooLarge old new pending f
-choice_cause is_honest faults TooLarge old new pending fault.NoMemory is = tt
-choice_cause is_honest faults TooLarge old new pending (fault.Journal e) is = absurd is
-choice_cause is_honest faults TooLarge old new pending fault.TooManyRegisters is = is
-choice_cause is_honest faults TooLarge old new pending fault.OtherRecords is = absurd is
-choice_cause is_honest faults TooLarge old new pending fault.CellRefused is = absurd is
+pub choice_cause : {D : Type 0} (disk : disks.Ghosts D) (TooLarge : Type 0) (old new : Log D) (pending : List Record) (f : Fault)
+    → IsChoiceFault TooLarge f → HasHaltCause disk TooLarge old new pending f
+choice_cause disk TooLarge old new pending fault.NoMemory is = tt
+choice_cause disk TooLarge old new pending (fault.Journal e) is = absurd is
+choice_cause disk TooLarge old new pending fault.TooManyRegisters is = is
+choice_cause disk TooLarge old new pending fault.OtherRecords is = absurd is
+choice_cause disk TooLarge old new pending fault.CellRefused is = absurd is
 
 -- a cause where no input is too large is one for any
-pub wider_cause : {D : Type 0} (is_honest : D → Type 0) (faults : D → ℕ) (TooLarge : Type 0) (old new : Log D) (pending : List Record) (f : Fault)
-    → HasHaltCause is_honest faults ⊥ old new pending f → HasHaltCause is_honest faults TooLarge old new pending f
-wider_cause is_honest faults TooLarge old new pending fault.NoMemory cause = tt
-wider_cause is_honest faults TooLarge old new pending (fault.Journal e) cause = cause
-wider_cause is_honest faults TooLarge old new pending fault.TooManyRegisters cause = absurd cause
-wider_cause is_honest faults TooLarge old new pending fault.OtherRecords cause = cause
-wider_cause is_honest faults TooLarge old new pending fault.CellRefused cause = cause
+pub wider_cause : {D : Type 0} (disk : disks.Ghosts D) (TooLarge : Type 0) (old new : Log D) (pending : List Record) (f : Fault)
+    → HasHaltCause disk ⊥ old new pending f → HasHaltCause disk TooLarge old new pending f
+wider_cause disk TooLarge old new pending fault.NoMemory cause = tt
+wider_cause disk TooLarge old new pending (fault.Journal e) cause = cause
+wider_cause disk TooLarge old new pending fault.TooManyRegisters cause = absurd cause
+wider_cause disk TooLarge old new pending fault.OtherRecords cause = cause
+wider_cause disk TooLarge old new pending fault.CellRefused cause = cause
 
 -- a cause in a part of a run is one of the run
-pub later_cause : {D : Type 0} (is_honest : D → Type 0) (faults : D → ℕ) (old mid new : Log D) (pending : List Record) (e : LogError)
-    → (is_honest mid.disk ↔ is_honest old.disk) → faults old.disk ≤ faults mid.disk
-    → HasCause is_honest faults mid new pending e → HasCause is_honest faults old new pending e
-later_cause is_honest faults old mid new pending log.NoMemory honest later cause = tt
-later_cause is_honest faults old mid new pending log.Device honest later cause =
-    risen_within (faults old.disk) (faults mid.disk) (faults new.disk) (faults new.disk) later cause (omega arith)
-later_cause is_honest faults old mid new pending log.Full honest later cause = λ h. cause (honest.1 h)
-later_cause is_honest faults old mid new pending log.NotAJournal honest later cause = cause
-later_cause is_honest faults old mid new pending log.BadRecord honest later cause = cause
-later_cause is_honest faults old mid new pending log.OtherSource honest later cause = cause
-later_cause is_honest faults old mid new pending log.Stopped honest later cause = cause
+pub later_cause : {D : Type 0} (disk : disks.Ghosts D) (old mid new : Log D) (pending : List Record) (e : LogError)
+    → (disk.is_honest mid.disk ↔ disk.is_honest old.disk) → disk.faults old.disk ≤ disk.faults mid.disk
+    → HasCause disk mid new pending e → HasCause disk old new pending e
+later_cause disk old mid new pending log.NoMemory honest later cause = tt
+later_cause disk old mid new pending log.Device honest later cause =
+    risen_within (disk.faults old.disk) (disk.faults mid.disk) (disk.faults new.disk) (disk.faults new.disk) later cause (omega arith)
+later_cause disk old mid new pending log.Full honest later cause = λ h. cause (honest.1 h)
+later_cause disk old mid new pending log.NotAJournal honest later cause = cause
+later_cause disk old mid new pending log.BadRecord honest later cause = cause
+later_cause disk old mid new pending log.OtherSource honest later cause = cause
+later_cause disk old mid new pending log.Stopped honest later cause = cause
 
 -- ---- what it leaves of the journal
 
-module _ {D : Type 0} (Is : List ℕ → Type 0) (is_honest : D → Type 0) (seen : D → List ℕ) (may_leave : D → List ℕ → Type 0) (moment : D → ℕ) (left_since : D → ℕ → List ℕ → Type 0) (old new : Log D) (room : ℕ) (s t : SeatState) where
-  pub recorded_ok : (r : Result Bool Halt) (a b : Bool) → r ≡ Ok a → a ≡ b → Grown is_honest seen may_leave moment left_since old new room s t b
-      → TellNew Is room s t (acknowledged seen old) (acknowledged seen new) → Recorded Is is_honest seen may_leave moment left_since old new room s t r
+module _ {D : Type 0} (Is : List ℕ → Type 0) (disk : disks.Ghosts D) (old new : Log D) (room : ℕ) (s t : SeatState) where
+  pub recorded_ok : (r : Result Bool Halt) (a b : Bool) → r ≡ Ok a → a ≡ b → Grown disk old new room s t b
+      → TellNew Is room s t (acknowledged disk.seen old) (acknowledged disk.seen new) → Recorded Is disk old new room s t r
   recorded_ok r a b e same grown told =
-      subst (λ (x : Result Bool Halt). Recorded Is is_honest seen may_leave moment left_since old new room s t x) (sym e)
-      (subst (λ (x : Bool). Grown is_honest seen may_leave moment left_since old new room s t x) (sym same) grown, told)
+      subst (λ (x : Result Bool Halt). Recorded Is disk old new room s t x) (sym e)
+      (subst (λ (x : Bool). Grown disk old new room s t x) (sym same) grown, told)
 
-  pub recorded_err : (r : Result Bool Halt) (h k : Halt) → r ≡ Err h → h ≡ k → HasLeft Is seen may_leave moment left_since old new room s t (left_over room t k.pending)
-      → Recorded Is is_honest seen may_leave moment left_since old new room s t r
+  pub recorded_err : (r : Result Bool Halt) (h k : Halt) → r ≡ Err h → h ≡ k → HasLeft Is disk old new room s t (left_over room t k.pending)
+      → Recorded Is disk old new room s t r
   recorded_err r h k e same left =
-      subst (λ (x : Result Bool Halt). Recorded Is is_honest seen may_leave moment left_since old new room s t x) (sym e)
-      (subst (λ (x : Halt). HasLeft Is seen may_leave moment left_since old new room s t (left_over room t x.pending)) (sym same) left)
+      subst (λ (x : Result Bool Halt). Recorded Is disk old new room s t x) (sym e)
+      (subst (λ (x : Halt). HasLeft Is disk old new room s t (left_over room t x.pending)) (sym same) left)
 
 -- ---- the text of its offer
 
@@ -257,12 +258,12 @@ pub own_seeing : {T : Type 0} (IsText : List ℕ → T → Type 0) (s t : SeatVa
 own_seeing {T} IsText s t me seen text has = (has.0, ap (λ (j : ℕ). offer_of t j) me ∙ seen s.words.node.me has.0 has.1, has.2)
 
 -- looking at a cell behind what a call left of the journal
-pub played_seeing : {D T : Type 0} (IsText : List ℕ → T → Type 0) (is_honest : D → Type 0) (seen : D → List ℕ) (may_leave : D → List ℕ → Type 0) (moment : D → ℕ) (left_since : D → ℕ → List ℕ → Type 0) (old new : Log D) (room : ℕ)
-    (s : SeatState) (m t : SeatValue T) (moved : Bool) (progress : Progress) → t.words ≡ m.words → SeesOn m t → Recorded (IsOwnText IsText m) is_honest seen may_leave moment left_since old new room s m.words (Ok moved)
-    → progress ≡ progress_of s.node.learned t.words.node.learned moved → Played (IsOwnText IsText t) is_honest seen may_leave moment left_since old new room s t.words (Ok progress)
-played_seeing {D} {T} IsText is_honest seen may_leave moment left_since old new room s m t moved progress words sees left told = (
+pub played_seeing : {D T : Type 0} (IsText : List ℕ → T → Type 0) (disk : disks.Ghosts D) (old new : Log D) (room : ℕ)
+    (s : SeatState) (m t : SeatValue T) (moved : Bool) (progress : Progress) → t.words ≡ m.words → SeesOn m t → Recorded (IsOwnText IsText m) disk old new room s m.words (Ok moved)
+    → progress ≡ progress_of s.node.learned t.words.node.learned moved → Played (IsOwnText IsText t) disk old new room s t.words (Ok progress)
+played_seeing {D} {T} IsText disk old new room s m t moved progress words sees left told = (
   moved,
-  subst (λ (u : SeatState). Grown is_honest seen may_leave moment left_since old new room s u moved) (sym words) left.0,
+  subst (λ (u : SeatState). Grown disk old new room s u moved) (sym words) left.0,
   λ rooms low ordered first now.
       let is = left.1 rooms low ordered first (ap (λ (u : SeatState). u.node.kept.offered) (sym words) ∙ now) in
       (is.0, is.1, own_seeing IsText m t (ap (λ (u : SeatState). u.node.me) words) sees is.0 is.2),

@@ -19,7 +19,7 @@ module _ {D : Type 0} (disk : disks.Ghosts D) where
   abbrev pub MayHaltFor : {A : Type 0} → Type 0 → Log D → Log D → ℕ → SeatState → Result A Halt → Type 0
   MayHaltFor TooLarge old new room t result =
       old.going ≡ true
-      → IfErr result (λ halt. HasHaltCause disk.is_honest disk.faults TooLarge old new (left_over room t halt.pending) halt.fault)
+      → IfErr result (λ halt. HasHaltCause disk TooLarge old new (left_over room t halt.pending) halt.fault)
 
   -- the same over this input, if there is one, by the test of what is too large
   abbrev pub HaltsOver : {A I : Type 0} → (I → Type 0) → Option I → Log D → Log D → ℕ → SeatState → Result A Halt → Type 0
@@ -35,12 +35,10 @@ module _ {P A B C I O : Type 0} where
     abbrev pub LogsSteps : Log D → Log D → ℕ → SeatValue (Parts I O C) → SeatValue (Parts I O C) → Result Bool Halt → Type 0
     LogsSteps old new room s t result =
         disk.is_honest old.disk → old.going ≡ true
-        → Recorded (IsOwnText (IsOfferText from to by) t) disk.is_honest disk.seen disk.may_leave disk.moment disk.left_since
-        old new room s.words t.words result
+        → Recorded (IsOwnText (IsOfferText from to by) t) disk old new room s.words t.words result
 
     -- so it does behind a turn, which tells what was learned, and whether the journal has more records
     abbrev pub LogsTurn : Log D → Log D → ℕ → SeatValue (Parts I O C) → SeatValue (Parts I O C) → Result Progress Halt → Type 0
     LogsTurn old new room s t result =
         disk.is_honest old.disk → old.going ≡ true
-        → Played (IsOwnText (IsOfferText from to by) t) disk.is_honest disk.seen disk.may_leave disk.moment disk.left_since
-        old new room s.words t.words result
+        → Played (IsOwnText (IsOfferText from to by) t) disk old new room s.words t.words result

@@ -1,5 +1,6 @@
 -- One turn of a node in one room: what it tells, what it leaves, and why it halts.
 use Rattle.std.specs.Prelude.{◌≡◌, ℕ, ◌<◌, Bool, true, false, List, Option, Some, None, Result, Ok, Err}
+use Rattle.durable_model.specs.declared.disk.Disk as disks
 use Rattle.acceptor_log.specs.declared.log.Log.{Log}
 use Rattle.acceptor_log.specs.Acknowledged.{acknowledged}
 use Rattle.offers.specs.declared.parts.Parts.{Parts}
@@ -74,14 +75,13 @@ pub record StaysInTurn {T : Type 0} (old new : SeatValue T) : Type 0 where
 
 -- What a turn leaves of the journal, by its result: what it tells is what was learned, and whether it has more records. An
 -- offer that was made is told, by a text that is so.
-abbrev pub Played : {D : Type 0} → (List ℕ → Type 0) → (D → Type 0) → (D → List ℕ) → (D → List ℕ → Type 0) → (D → ℕ)
-    → (D → ℕ → List ℕ → Type 0) → Log D → Log D → ℕ → SeatState → SeatState → Result Progress Halt → Type 0
-Played Is is_honest seen may_leave moment left_since old new room s t (Ok progress) =
-    (moved : Bool) × HasGrown is_honest seen may_leave moment left_since old new room s t moved
-    × TellNew Is room s t (acknowledged seen old) (acknowledged seen new)
+abbrev pub Played : {D : Type 0} → (List ℕ → Type 0) → disks.Ghosts D → Log D → Log D → ℕ → SeatState → SeatState → Result Progress Halt → Type 0
+Played Is disk old new room s t (Ok progress) =
+    (moved : Bool) × HasGrown disk old new room s t moved
+    × TellNew Is room s t (acknowledged disk.seen old) (acknowledged disk.seen new)
     × (progress ≡ progress_of s.node.learned t.node.learned moved)
-Played Is is_honest seen may_leave moment left_since old new room s t (Err halt) =
-    HasLeft Is seen may_leave moment left_since old new room s t (left_over room t halt.pending)
+Played Is disk old new room s t (Err halt) =
+    HasLeft Is disk old new room s t (left_over room t halt.pending)
 
 -- this is the output of the offer that the node has learned here, as the seat has seen it
 pub record IsLearnedOutput {I O C : Type 0} (s : SeatValue (Parts I O C)) (made : O) : Type 0 where

@@ -23,8 +23,8 @@ pub fn offer_on<D: Disk, P: Pass, O: Oracle<P = P>>(
     oracle: &mut O,
     draws: &mut Pcg32,
 ) -> Result<bool, Halt>
-    requires { IsSound D.is_honest D.seen D.may_leave log.old }
-    ensures served { IsServed D.is_honest D.seen D.may_leave D.faults log.old log.new }
+    requires { IsSound D.Disk log.old }
+    ensures served { IsServed D.Disk log.old log.new }
     ensures going { IfOk result (λ moved. log.new.going ≡ log.old.going) }
     ensures seat { HeldOffer seat.old seat.new }
 

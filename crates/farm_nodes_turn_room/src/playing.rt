@@ -31,8 +31,8 @@ pub fn play<D: Disk, P: Pass, O: Oracle<P = P>>(
     oracle: &mut O,
     draws: &mut Pcg32,
 ) -> Result<Progress, Halt>
-    requires { IsSound D.is_honest D.seen D.may_leave log.old }
-    ensures served { IsServed D.is_honest D.seen D.may_leave D.faults log.old log.new }
+    requires { IsSound D.Disk log.old }
+    ensures served { IsServed D.Disk log.old log.new }
     ensures going { IfOk result (λ progress. log.new.going ≡ log.old.going) }
     ensures stays { StaysInTurn seat.old seat.new }
 
@@ -78,8 +78,8 @@ fn take_steps<D: Disk, P: Pass, O: Oracle<P = P>>(
     oracle: &mut O,
     draws: &mut Pcg32,
 ) -> Result<bool, Halt>
-    requires { IsSound D.is_honest D.seen D.may_leave log.old }
-    ensures served { IsServed D.is_honest D.seen D.may_leave D.faults log.old log.new }
+    requires { IsSound D.Disk log.old }
+    ensures served { IsServed D.Disk log.old log.new }
     ensures going { IfOk result (λ moved. log.new.going ≡ log.old.going) }
     ensures stays { StaysInTurn seat.old seat.new }
     ensures made { IsMadeOn (option_copied input.entry) seat.old seat.new }

@@ -3,6 +3,7 @@ use Rattle.std.proofs.Common.{◌≡◌, ◌≢◌, inl, ℕ, ◌+◌, ◌<◌, 
 use Rattle.std.proofs.lemmas.List.Elements.{All-push}
 use Rattle.paxos_core_world.specs.KeptPart.{KeptPart}
 use Rattle.paxos_core_world.specs.Quorum.{Sizes}
+use Rattle.durable_model.specs.declared.disk.Disk as disks
 use Rattle.durable_model.specs.Moments.{LeavesOnly, started, composed}
 use Rattle.acceptor_log_form.specs.declared.header.Header.{Header}
 use Rattle.acceptor_log_form.specs.declared.record.Record.{Record}
@@ -45,81 +46,81 @@ wider h g low high low2 high2 c same p q b = record {
 nothing_pending : (n i rooms : ℕ) (rs : List Record) → AreInOrder n i rooms rs → AreInOrder n i rooms (rs ++ [])
 nothing_pending n i rooms rs order = subst (λ (l : List Record). AreInOrder n i rooms l) (sym (append-nil rs)) order
 
-module _ {D : Type 0} (seen : D → List ℕ) (may_leave : D → List ℕ → Type 0) (moment : D → ℕ) (left_since : D → ℕ → List ℕ → Type 0) where
+module _ {D : Type 0} (disk : disks.Ghosts D) where
   abbrev pub Goes : Log D → Log D → ℕ → SeatState → SeatState → List Record → List Record → Type 0
-  Goes old new room s t upto pending = JournalAdvances seen may_leave moment left_since old new room s t upto pending
+  Goes old new room s t upto pending = JournalAdvances disk old new room s t upto pending
 
   -- what a crash leaves of a journal at rest
-  rest : (is_honest : D → Type 0) (log : Log D) → IsReady is_honest seen may_leave log → (c : List ℕ) → may_leave log.disk c → Either log.header (acknowledged seen log) (acknowledged seen log ++ []) c
-  rest is_honest log ready c left = inl (subst (λ (b : List ℕ). StandsFor log.header (acknowledged seen log) b) (sym (ready.rests.durable c left)) ready.rests.stands)
+  rest : (log : Log D) → IsReady disk log → (c : List ℕ) → disk.may_leave log.disk c → Either log.header (acknowledged disk.seen log) (acknowledged disk.seen log ++ []) c
+  rest log ready c left = inl (subst (λ (b : List ℕ). StandsFor log.header (acknowledged disk.seen log) b) (sym (ready.rests.durable c left)) ready.rests.stands)
 
   -- nothing was done
-  pub none : (is_honest : D → Type 0) (log : Log D) (room : ℕ) (s : SeatState) → IsReady is_honest seen may_leave log
-      → ((c : List ℕ) → left_since log.disk (moment log.disk) c → may_leave log.disk c)
-      → Goes log log room s s (acknowledged seen log) []
-  none is_honest log room s ready now = record {
-    longer = begins_same (acknowledged seen log);
+  pub none : (log : Log D) (room : ℕ) (s : SeatState) → IsReady disk log
+      → ((c : List ℕ) → disk.left_since log.disk (disk.moment log.disk) c → disk.may_leave log.disk c)
+      → Goes log log room s s (acknowledged disk.seen log) []
+  none log room s ready now = record {
+    longer = begins_same (acknowledged disk.seen log);
     kept = λ e. e;
     others = λ m other. refl;
     named = λ rooms low are. are;
     me = refl;
     quorums = refl;
     proposals = λ m other. refl;
-    order = λ rooms low ordered. (ordered, nothing_pending s.node.quorums.nodes s.node.me rooms (acknowledged seen log) ordered.in_order);
-    any_moment = started moment left_since log.disk (Between log.header (acknowledged seen log) (acknowledged seen log ++ [])) (λ c left. either-between log.header (acknowledged seen log) (acknowledged seen log ++ []) c ([], refl) (rest is_honest log ready c (now c left)));
-    left = rest is_honest log ready;
+    order = λ rooms low ordered. (ordered, nothing_pending s.node.quorums.nodes s.node.me rooms (acknowledged disk.seen log) ordered.in_order);
+    any_moment = started disk.moment disk.left_since log.disk (Between log.header (acknowledged disk.seen log) (acknowledged disk.seen log ++ [])) (λ c left. either-between log.header (acknowledged disk.seen log) (acknowledged disk.seen log ++ []) c ([], refl) (rest log ready c (now c left)));
+    left = rest log ready;
   }
 
   -- one record was put down
-  pub one : (is_honest : D → Type 0) (old new : Log D) (room : ℕ) (s t : SeatState) (r : Record) → Follows room s t r
-      → new.header ≡ old.header → IsReady is_honest seen may_leave new → acknowledged seen new ≡ acknowledged seen old ++ r ∷ []
-      → LeavesOnly moment left_since old.disk new.disk (Between old.header (acknowledged seen old) (acknowledged seen old ++ r ∷ []))
-      → Goes old new room s t (acknowledged seen new) []
-  one is_honest old new room s t r follows header ready added run = record {
+  pub one : (old new : Log D) (room : ℕ) (s t : SeatState) (r : Record) → Follows room s t r
+      → new.header ≡ old.header → IsReady disk new → acknowledged disk.seen new ≡ acknowledged disk.seen old ++ r ∷ []
+      → LeavesOnly disk.moment disk.left_since old.disk new.disk (Between old.header (acknowledged disk.seen old) (acknowledged disk.seen old ++ r ∷ []))
+      → Goes old new room s t (acknowledged disk.seen new) []
+  one old new room s t r follows header ready added run = record {
     longer = (r ∷ [], added);
-    kept = λ e. ap (λ (rs : List Record). kept_in rs room) added ∙ (kept_own (acknowledged seen old) r room follows.own ∙ (ap (λ (x : KeptPart). kept_by_record x r) e ∙ follows.step));
-    others = λ m other. ap (λ (rs : List Record). kept_in rs m) added ∙ kept_other (acknowledged seen old) r m (λ e. other (sym e ∙ follows.own));
-    named = λ rooms low are. subst (λ (rs : List Record). AreOf rooms rs) (sym added) (more_of rooms (acknowledged seen old) r (subst (λ (m : ℕ). m < rooms) (sym follows.own) low) are);
+    kept = λ e. ap (λ (rs : List Record). kept_in rs room) added ∙ (kept_own (acknowledged disk.seen old) r room follows.own ∙ (ap (λ (x : KeptPart). kept_by_record x r) e ∙ follows.step));
+    others = λ m other. ap (λ (rs : List Record). kept_in rs m) added ∙ kept_other (acknowledged disk.seen old) r m (λ e. other (sym e ∙ follows.own));
+    named = λ rooms low are. subst (λ (rs : List Record). AreOf rooms rs) (sym added) (more_of rooms (acknowledged disk.seen old) r (subst (λ (m : ℕ). m < rooms) (sym follows.own) low) are);
     me = follows.me;
     quorums = follows.quorums;
-    proposals = λ m other. ap (λ (rs : List Record). proposed_in rs m) added ∙ proposed_other (acknowledged seen old) r m (λ e. other (sym e ∙ follows.own));
+    proposals = λ m other. ap (λ (rs : List Record). proposed_in rs m) added ∙ proposed_other (acknowledged disk.seen old) r m (λ e. other (sym e ∙ follows.own));
     order = λ rooms low ordered. (
-      subst (λ (rs : List Record). AreOrdered rooms room t rs) (sym added) (more_ordered rooms room s t (acknowledged seen old) r low follows ordered),
-      nothing_pending s.node.quorums.nodes s.node.me rooms (acknowledged seen new)
+      subst (λ (rs : List Record). AreOrdered rooms room t rs) (sym added) (more_ordered rooms room s t (acknowledged disk.seen old) r low follows ordered),
+      nothing_pending s.node.quorums.nodes s.node.me rooms (acknowledged disk.seen new)
           (subst (λ (rs : List Record). AreInOrder s.node.quorums.nodes s.node.me rooms rs) (sym added)
-          (more_in_order rooms room s (acknowledged seen old) r low follows.own follows.goes ordered)),
+          (more_in_order rooms room s (acknowledged disk.seen old) r low follows.own follows.goes ordered)),
     );
-    any_moment = weaker run (λ c b. wider old.header old.header (acknowledged seen old) (acknowledged seen old ++ r ∷ []) (acknowledged seen old) (acknowledged seen new ++ []) c refl (begins_same (acknowledged seen old)) ([], more) b);
-    left = λ c left. subst (λ (h : Header). Either h (acknowledged seen new) (acknowledged seen new ++ []) c) header (rest is_honest new ready c left);
+    any_moment = weaker run (λ c b. wider old.header old.header (acknowledged disk.seen old) (acknowledged disk.seen old ++ r ∷ []) (acknowledged disk.seen old) (acknowledged disk.seen new ++ []) c refl (begins_same (acknowledged disk.seen old)) ([], more) b);
+    left = λ c left. subst (λ (h : Header). Either h (acknowledged disk.seen new) (acknowledged disk.seen new ++ []) c) header (rest new ready c left);
   }
     where
-      more : acknowledged seen new ++ [] ≡ (acknowledged seen old ++ r ∷ []) ++ []
+      more : acknowledged disk.seen new ++ [] ≡ (acknowledged disk.seen old ++ r ∷ []) ++ []
       more = ap (λ (rs : List Record). rs ++ []) added
 
   -- one record may have been put down
   pub perhaps : (old new : Log D) (room : ℕ) (s : SeatState) (r : Record) → room_of r ≡ room
       → ((last : ℕ) → IsUnproposed last s → MayComeNext s.node.quorums.nodes s.node.me s.node.kept last r)
-      → ((c : List ℕ) → may_leave new.disk c → moment old.disk ≤ moment new.disk → left_since new.disk (moment old.disk) c)
-      → LeavesOnly moment left_since old.disk new.disk (Between old.header (acknowledged seen old) (acknowledged seen old ++ r ∷ []))
-      → Goes old new room s s (acknowledged seen old) (r ∷ [])
+      → ((c : List ℕ) → disk.may_leave new.disk c → disk.moment old.disk ≤ disk.moment new.disk → disk.left_since new.disk (disk.moment old.disk) c)
+      → LeavesOnly disk.moment disk.left_since old.disk new.disk (Between old.header (acknowledged disk.seen old) (acknowledged disk.seen old ++ r ∷ []))
+      → Goes old new room s s (acknowledged disk.seen old) (r ∷ [])
   perhaps old new room s r own goes counts run = record {
-    longer = begins_same (acknowledged seen old);
+    longer = begins_same (acknowledged disk.seen old);
     kept = λ e. e;
     others = λ m other. refl;
     named = λ rooms low are. are;
     me = refl;
     quorums = refl;
     proposals = λ m other. refl;
-    order = λ rooms low ordered. (ordered, more_in_order rooms room s (acknowledged seen old) r low own goes ordered);
+    order = λ rooms low ordered. (ordered, more_in_order rooms room s (acknowledged disk.seen old) r low own goes ordered);
     any_moment = run;
-    left = λ c left. between-two old.header (acknowledged seen old) r c (run.each c (counts c left run.later));
+    left = λ c left. between-two old.header (acknowledged disk.seen old) r c (run.each c (counts c left run.later));
   }
 
   -- one call after another
   pub then : (old mid new : Log D) (room : ℕ) (s m t : SeatState) (upto pending : List Record) → mid.header ≡ old.header
-      → Goes old mid room s m (acknowledged seen mid) [] → Goes mid new room m t upto pending → Goes old new room s t upto pending
+      → Goes old mid room s m (acknowledged disk.seen mid) [] → Goes mid new room m t upto pending → Goes old new room s t upto pending
   then old mid new room s m t upto pending header first second = record {
-    longer = begins_through (acknowledged seen old) (acknowledged seen mid) upto first.longer second.longer;
+    longer = begins_through (acknowledged disk.seen old) (acknowledged disk.seen mid) upto first.longer second.longer;
     kept = λ e. second.kept (first.kept e);
     others = λ i other. second.others i other ∙ first.others i other;
     named = λ rooms low are. second.named rooms low (first.named rooms low are);
@@ -132,14 +133,14 @@ module _ {D : Type 0} (seen : D → List ℕ) (may_leave : D → List ℕ → Ty
           subst (λ (n : ℕ). AreInOrder n s.node.me rooms (upto ++ pending)) (ap (λ (q : Sizes). q.nodes) first.quorums)
               (subst (λ (i : ℕ). AreInOrder m.node.quorums.nodes i rooms (upto ++ pending)) first.me both.1),
         );
-    any_moment = composed moment left_since old.disk mid.disk new.disk
-        (Between old.header (acknowledged seen old) (acknowledged seen mid ++ []))
-        (Between mid.header (acknowledged seen mid) (upto ++ pending))
-        (Between old.header (acknowledged seen old) (upto ++ pending))
+    any_moment = composed disk.moment disk.left_since old.disk mid.disk new.disk
+        (Between old.header (acknowledged disk.seen old) (acknowledged disk.seen mid ++ []))
+        (Between mid.header (acknowledged disk.seen mid) (upto ++ pending))
+        (Between old.header (acknowledged disk.seen old) (upto ++ pending))
         first.any_moment second.any_moment
-        (λ c b. wider old.header old.header (acknowledged seen old) (acknowledged seen mid ++ []) (acknowledged seen old) (upto ++ pending) c refl (begins_same (acknowledged seen old))
-        (subst (λ (rs : List Record). Begins rs (upto ++ pending)) (sym (append-nil (acknowledged seen mid))) (begins_more (acknowledged seen mid) upto pending second.longer)) b)
-        (λ c b. wider mid.header old.header (acknowledged seen mid) (upto ++ pending) (acknowledged seen old) (upto ++ pending) c header first.longer (begins_same (upto ++ pending)) b);
+        (λ c b. wider old.header old.header (acknowledged disk.seen old) (acknowledged disk.seen mid ++ []) (acknowledged disk.seen old) (upto ++ pending) c refl (begins_same (acknowledged disk.seen old))
+        (subst (λ (rs : List Record). Begins rs (upto ++ pending)) (sym (append-nil (acknowledged disk.seen mid))) (begins_more (acknowledged disk.seen mid) upto pending second.longer)) b)
+        (λ c b. wider mid.header old.header (acknowledged disk.seen mid) (upto ++ pending) (acknowledged disk.seen old) (upto ++ pending) c header first.longer (begins_same (upto ++ pending)) b);
     left = λ c left. subst (λ (h : Header). Either h upto (upto ++ pending) c) header (second.left c left);
   }
 
@@ -154,7 +155,7 @@ module _ {D : Type 0} (seen : D → List ℕ) (may_leave : D → List ℕ → Ty
     quorums = q.quorums ∙ (goes.quorums ∙ sym p.quorums);
     proposals = goes.proposals;
     order = λ rooms low ordered.
-        let both = goes.order rooms low (ordered_at rooms room s2 s (acknowledged seen old) (same_turned s s2 p) ordered) in
+        let both = goes.order rooms low (ordered_at rooms room s2 s (acknowledged disk.seen old) (same_turned s s2 p) ordered) in
         (ordered_at rooms room t t2 upto q both.0, in_order_at rooms s s2 (upto ++ pending) p both.1);
     any_moment = goes.any_moment;
     left = goes.left;

@@ -2,6 +2,7 @@
 use Rattle.std.proofs.Common.{◌≡◌, ◌≢◌, ℕ, ◌+◌, ◌<◌, ◌≤◌, Bool, true, false, ltb, List, [], ◌∷◌, ◌++◌, length, Option, Some, None, IfSome, option_map, refl, sym, ap, ◌∙◌, subst, arith}
 use Rattle.std.proofs.lemmas.Bool.{and_parts, ltb-true, le-ltb, lt-ltb}
 use Rattle.std.proofs.lemmas.List.{length_push}
+use Rattle.durable_model.specs.declared.disk.Disk as disks
 use Rattle.durable_model.specs.Honest.{Risen}
 use Rattle.paxos_core_world.specs.KeptPart.{KeptPart}
 use Rattle.paxos_core_world.specs.declared.vote.Vote.{Vote}
@@ -93,13 +94,13 @@ no_more old = sym (le-ltb (length old) (length old) (omega arith))
 
 -- ---- why it was stopped
 
-pub cause_of : {D : Type 0} (is_honest : D → Type 0) (faults : D → ℕ) (old new : Log D) (pending : List Record) (e : LogError)
-    → (e ≡ Stopped → ⊥) → IsNoFault e → (e ≡ Device → Risen (faults old.disk) (faults new.disk)) → (e ≡ Full → is_honest old.disk → IsFull new pending)
-    → HasCause is_honest faults old new pending e
-cause_of is_honest faults old new pending NoMemory going fault device full = tt
-cause_of is_honest faults old new pending Device going fault device full = device refl
-cause_of is_honest faults old new pending NotAJournal going fault device full = fault.0 refl
-cause_of is_honest faults old new pending BadRecord going fault device full = fault.1 refl
-cause_of is_honest faults old new pending OtherSource going fault device full = fault.2 refl
-cause_of is_honest faults old new pending Stopped going fault device full = going refl
-cause_of is_honest faults old new pending Full going fault device full = full refl
+pub cause_of : {D : Type 0} (disk : disks.Ghosts D) (old new : Log D) (pending : List Record) (e : LogError)
+    → (e ≡ Stopped → ⊥) → IsNoFault e → (e ≡ Device → Risen (disk.faults old.disk) (disk.faults new.disk)) → (e ≡ Full → disk.is_honest old.disk → IsFull new pending)
+    → HasCause disk old new pending e
+cause_of disk old new pending NoMemory going fault device full = tt
+cause_of disk old new pending Device going fault device full = device refl
+cause_of disk old new pending NotAJournal going fault device full = fault.0 refl
+cause_of disk old new pending BadRecord going fault device full = fault.1 refl
+cause_of disk old new pending OtherSource going fault device full = fault.2 refl
+cause_of disk old new pending Stopped going fault device full = going refl
+cause_of disk old new pending Full going fault device full = full refl

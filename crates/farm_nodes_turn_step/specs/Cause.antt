@@ -19,15 +19,15 @@ pub record IsFull {D : Type 0} (log : Log D) (pending : List Record) : Type 0 wh
   pub over : 4294967295 < file_with log entry
 
 -- The device failed, the file is full, or memory was refused; of a journal that went on there is no other cause.
-abbrev pub HasCause : {D : Type 0} → (D → Type 0) → (D → ℕ) → Log D → Log D → List Record → LogError → Type 0
-HasCause is_honest faults old new pending NoMemory = Unit {0}
-HasCause is_honest faults old new pending Device = Risen (faults old.disk) (faults new.disk)
-HasCause is_honest faults old new pending Full = is_honest old.disk → IsFull new pending
-HasCause is_honest faults old new pending NotAJournal = ⊥
-HasCause is_honest faults old new pending BadRecord = ⊥
-HasCause is_honest faults old new pending OtherSource = ⊥
-HasCause is_honest faults old new pending Stopped = ⊥
+abbrev pub HasCause : {D : Type 0} → disks.Ghosts D → Log D → Log D → List Record → LogError → Type 0
+HasCause disk old new pending NoMemory = Unit {0}
+HasCause disk old new pending Device = Risen (disk.faults old.disk) (disk.faults new.disk)
+HasCause disk old new pending Full = disk.is_honest old.disk → IsFull new pending
+HasCause disk old new pending NotAJournal = ⊥
+HasCause disk old new pending BadRecord = ⊥
+HasCause disk old new pending OtherSource = ⊥
+HasCause disk old new pending Stopped = ⊥
 
 -- so it is of a call that was stopped over a disk, in a room with this seat
 abbrev pub StopsFor : {D : Type 0} → disks.Ghosts D → Log D → Log D → ℕ → SeatState → Stop → Type 0
-StopsFor disk old new room s stop = HasCause disk.is_honest disk.faults old new (pending_of room s stop.pending) stop.error
+StopsFor disk old new room s stop = HasCause disk old new (pending_of room s stop.pending) stop.error

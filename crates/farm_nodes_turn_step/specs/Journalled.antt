@@ -10,22 +10,14 @@ use Rattle.farm_nodes_turn_step.specs.Noted.{pending_of}
 use Rattle.farm_nodes_turn_step.specs.JournalAdvances.{JournalAdvances}
 
 -- The journal may go on and stands for what the node keeps, and the node moved where there are more records.
-pub record HasGrown {D : Type 0} (is_honest : D → Type 0) (seen : D → List ℕ) (may_leave : D → List ℕ → Type 0)
-    (moment : D → ℕ) (left_since : D → ℕ → List ℕ → Type 0) (old new : Log D) (room : ℕ) (s t : SeatState)
-    (answer : Bool) : Type 0 where
-  pub ready : IsReady is_honest seen may_leave new
-  pub advances : JournalAdvances seen may_leave moment left_since old new room s t (acknowledged seen new) []
-  pub moved : answer ≡ nat_lt (length (acknowledged seen old)) (length (acknowledged seen new))
+pub record HasGrown {D : Type 0} (disk : disks.Ghosts D) (old new : Log D) (room : ℕ) (s t : SeatState) (answer : Bool) : Type 0 where
+  pub ready : IsReady disk new
+  pub advances : JournalAdvances disk old new room s t (acknowledged disk.seen new) []
+  pub moved : answer ≡ nat_lt (length (acknowledged disk.seen old)) (length (acknowledged disk.seen new))
 
 -- Where the node was stopped, the pending record is that of what it has not done.
-abbrev pub Journalled : {D : Type 0} → (D → Type 0) → (D → List ℕ) → (D → List ℕ → Type 0) → (D → ℕ)
-    → (D → ℕ → List ℕ → Type 0) → Log D → Log D → ℕ → SeatState → SeatState → Result Bool Stop → Type 0
-Journalled is_honest seen may_leave moment left_since old new room s t (Ok moved) =
-    HasGrown is_honest seen may_leave moment left_since old new room s t moved
-Journalled is_honest seen may_leave moment left_since old new room s t (Err stop) =
+abbrev pub Journalled : {D : Type 0} → disks.Ghosts D → Log D → Log D → ℕ → SeatState → SeatState → Result Bool Stop → Type 0
+Journalled disk old new room s t (Ok moved) = HasGrown disk old new room s t moved
+Journalled disk old new room s t (Err stop) =
     (upto : List Record)
-    × JournalAdvances seen may_leave moment left_since old new room s t upto (pending_of room t stop.pending)
-
--- the same of a disk
-abbrev pub IsJournalled : {D : Type 0} → disks.Ghosts D → Log D → Log D → ℕ → SeatState → SeatState → Result Bool Stop → Type 0
-IsJournalled disk = Journalled disk.is_honest disk.seen disk.may_leave disk.moment disk.left_since
+    × JournalAdvances disk old new room s t upto (pending_of room t stop.pending)

@@ -1,11 +1,11 @@
 -- What each call leaves of the journal, whatever its disk does.
-use Rattle.std.specs.Prelude.{◌≡◌, ◌≤◌, ◌↔◌, ℕ, List}
+use Rattle.std.specs.Prelude.{◌≡◌, ◌≤◌, ◌↔◌}
+use Rattle.durable_model.specs.declared.disk.Disk as disks
 use Rattle.acceptor_log.specs.declared.log.Log.{Log}
 use Rattle.acceptor_log.specs.Acknowledged.{IsSound}
 
-pub record IsServed {D : Type 0} (is_honest : D → Type 0) (seen : D → List ℕ) (may_leave : D → List ℕ → Type 0)
-    (faults : D → ℕ) (old new : Log D) : Type 0 where
-  pub sound : IsSound is_honest seen may_leave new
-  pub honest : is_honest new.disk ↔ is_honest old.disk
+pub record IsServed {D : Type 0} (disk : disks.Ghosts D) (old new : Log D) : Type 0 where
+  pub sound : IsSound disk new
+  pub honest : disk.is_honest new.disk ↔ disk.is_honest old.disk
   pub header : new.header ≡ old.header
-  pub later : faults old.disk ≤ faults new.disk
+  pub later : disk.faults old.disk ≤ disk.faults new.disk

@@ -5,7 +5,7 @@ ghost use Rattle.acceptor_log.specs.Acknowledged.{IsSound, WhileGoing};
 ghost use Rattle.rooms_crash.specs.Would.{would, Acted, IsAmong};
 ghost use Rattle.farm_nodes_turn_step.specs.Noted.{record_of, IsActAmong, IsByte};
 ghost use Rattle.farm_nodes_turn_step.specs.Served.{IsServed};
-ghost use Rattle.farm_nodes_turn_step.specs.Journalled.{IsJournalled};
+ghost use Rattle.farm_nodes_turn_step.specs.Journalled.{Journalled};
 ghost use Rattle.farm_nodes_turn_step.specs.Cause.{StopsFor};
 ghost use Rattle.farm_nodes_turn_step.specs.declared.stop.Pending.{Pending as Waiting};
 
@@ -24,9 +24,9 @@ pub fn act<D: Disk>(
     room: u16,
     act: SeatAct,
 ) -> Result<bool, Stop>
-    requires sound { IsSound D.is_honest D.seen D.may_leave log.old }
+    requires sound { IsSound D.Disk log.old }
     requires among { IsAmong seat.old.node.quorums.nodes act }
-    ensures served { IsServed D.is_honest D.seen D.may_leave D.faults log.old log.new }
+    ensures served { IsServed D.Disk log.old log.new }
     ensures ok { IfOk result (λ moved. (moved ≡ is_some (would seat.old act)) × Acted act seat.old seat.new) }
     ensures going { IfOk result (λ moved. log.new.going ≡ log.old.going) }
 
@@ -35,8 +35,8 @@ pub fn act<D: Disk>(
     ensures pending { IfErr result (λ stop. (stop.pending ≡ Waiting.Act act) × (would seat.old act ≢ None)) }
     ensures acting { IfErr result (λ stop. IsActAmong seat.new.node.quorums.nodes stop.pending) }
 
-    ensures journal { WhileGoing D.is_honest log.old
-        (IsJournalled D.Disk log.old log.new room seat.old seat.new result) }
+    ensures journal { WhileGoing D.Disk log.old
+        (Journalled D.Disk log.old log.new room seat.old seat.new result) }
     ensures cause { log.old.going ≡ true → IfErr result (StopsFor D.Disk log.old log.new room seat.new) }
 {
     let Some(step) = seat.intent(act) else {

@@ -4,7 +4,7 @@ ghost use Rattle.std.specs.Prelude.{◌≡◌, ◌<◌, ℕ, true, IfOk, IfErr, 
 ghost use Rattle.acceptor_log.specs.Acknowledged.{IsSound, WhileGoing};
 ghost use Rattle.farm_nodes_turn_step.specs.Noted.{IsActAmong};
 ghost use Rattle.farm_nodes_turn_step.specs.Served.{IsServed};
-ghost use Rattle.farm_nodes_turn_step.specs.Journalled.{IsJournalled};
+ghost use Rattle.farm_nodes_turn_step.specs.Journalled.{Journalled};
 ghost use Rattle.farm_nodes_turn_step.specs.Cause.{StopsFor};
 ghost use Rattle.farm_nodes_turn_step.specs.Quiet.{IsQuiet, HasHeard};
 
@@ -17,16 +17,16 @@ use rooms_crash::act::SeatAct;
 
 /// Hears every node, its own number too. Answers whether it took a step.
 pub fn hear_all<D: Disk>(log: &mut Log<D>, seat: &mut WordSeat, room: u16) -> Result<bool, Stop>
-    requires { IsSound D.is_honest D.seen D.may_leave log.old }
-    ensures served { IsServed D.is_honest D.seen D.may_leave D.faults log.old log.new }
+    requires { IsSound D.Disk log.old }
+    ensures served { IsServed D.Disk log.old log.new }
     ensures going { IfOk result (λ moved. log.new.going ≡ log.old.going) }
     ensures heard { HasHeard seat.old seat.new }
     ensures quiet { OnOk result ((j : ℕ) → j < seat.new.node.quorums.nodes → IsQuiet j seat.new) }
 
     // Where it is stopped, it was about to act, and was asked of a node of the room.
     ensures acting { IfErr result (λ stop. IsActAmong seat.new.node.quorums.nodes stop.pending) }
-    ensures journal { WhileGoing D.is_honest log.old
-        (IsJournalled D.Disk log.old log.new room seat.old seat.new result) }
+    ensures journal { WhileGoing D.Disk log.old
+        (Journalled D.Disk log.old log.new room seat.old seat.new result) }
     ensures cause { log.old.going ≡ true → IfErr result (StopsFor D.Disk log.old log.new room seat.new) }
 {
     let mut moved = false;
@@ -42,9 +42,9 @@ pub fn hear_all<D: Disk>(log: &mut Log<D>, seat: &mut WordSeat, room: u16) -> Re
 /// Hears node `j`: looks at its proposer, accepts what it proposes or else promises its ballot, and looks at its
 /// acceptor. Answers whether it took a step.
 pub fn hear<D: Disk>(log: &mut Log<D>, seat: &mut WordSeat, room: u16, j: u8) -> Result<bool, Stop>
-    requires sound { IsSound D.is_honest D.seen D.may_leave log.old }
+    requires sound { IsSound D.Disk log.old }
     requires below { j < seat.old.node.quorums.nodes }
-    ensures served { IsServed D.is_honest D.seen D.may_leave D.faults log.old log.new }
+    ensures served { IsServed D.Disk log.old log.new }
     ensures going { IfOk result (λ moved. log.new.going ≡ log.old.going) }
     ensures heard { HasHeard seat.old seat.new }
     ensures quiet { OnOk result (IsQuiet j seat.new) }
@@ -53,8 +53,8 @@ pub fn hear<D: Disk>(log: &mut Log<D>, seat: &mut WordSeat, room: u16, j: u8) ->
     ensures others { OnOk result ((i : ℕ) → i < j → IsQuiet i seat.old → IsQuiet i seat.new) }
 
     ensures acting { IfErr result (λ stop. IsActAmong seat.new.node.quorums.nodes stop.pending) }
-    ensures journal { WhileGoing D.is_honest log.old
-        (IsJournalled D.Disk log.old log.new room seat.old seat.new result) }
+    ensures journal { WhileGoing D.Disk log.old
+        (Journalled D.Disk log.old log.new room seat.old seat.new result) }
     ensures cause { log.old.going ≡ true → IfErr result (StopsFor D.Disk log.old log.new room seat.new) }
 {
     let _proposer = seat.look_proposer(j);
@@ -69,16 +69,16 @@ pub fn hear<D: Disk>(log: &mut Log<D>, seat: &mut WordSeat, room: u16, j: u8) ->
 /// Accepts what node `j` was seen to have proposed or, where it does not, promises the ballot that it was seen to have
 /// started.
 fn answer<D: Disk>(log: &mut Log<D>, seat: &mut WordSeat, room: u16, j: u8) -> Result<bool, Stop>
-    requires sound { IsSound D.is_honest D.seen D.may_leave log.old }
+    requires sound { IsSound D.Disk log.old }
     requires below { j < seat.old.node.quorums.nodes }
-    ensures served { IsServed D.is_honest D.seen D.may_leave D.faults log.old log.new }
+    ensures served { IsServed D.Disk log.old log.new }
     ensures going { IfOk result (λ moved. log.new.going ≡ log.old.going) }
     ensures heard { HasHeard seat.old seat.new }
     ensures quiet { OnOk result (IsQuiet j seat.new) }
     ensures others { OnOk result ((i : ℕ) → i < j → IsQuiet i seat.old → IsQuiet i seat.new) }
     ensures acting { IfErr result (λ stop. IsActAmong seat.new.node.quorums.nodes stop.pending) }
-    ensures journal { WhileGoing D.is_honest log.old
-        (IsJournalled D.Disk log.old log.new room seat.old seat.new result) }
+    ensures journal { WhileGoing D.Disk log.old
+        (Journalled D.Disk log.old log.new room seat.old seat.new result) }
     ensures cause { log.old.going ≡ true → IfErr result (StopsFor D.Disk log.old log.new room seat.new) }
 {
     seat.bounds();

@@ -10,6 +10,7 @@ use Rattle.farm_nodes_crash.proofs.law.left_by_all.Goals as goal
 pub returns-clause-journals : goal.returns-clause-journals
 returns-clause-journals g c =
     left_journals_stand g.P.Disk g.P.Pair c.args.quorums g.met.P.Pair.honest_spent g.met.P.Pair.new_is_left
+    (record { constants = c.one_text.ensures; expressions = c.one_text-2.ensures; allocation = c.one_text-3.ensures; order = c.one_text-4.ensures })
 
 pub returns-clause-rooms : goal.returns-clause-rooms
 returns-clause-rooms g c =

@@ -57,7 +57,7 @@ returns-clause-sound g c =
     let logs = made_shown c.pieces_of-pieces.result.items c.made_of.result.items (λ j. j.0) (λ n. n.log) c.pieces_of-pieces.ensures.journals c.made_of.ensures (λ a b p. search rules) in
     let seats = made_same c.pieces_of-pieces.result.items c.made_of.result.items (λ n. n.seats) c.pieces_of-pieces.ensures.seats c.made_of.ensures (λ a b p. search rules) in
     let going = made_so c.pieces_of-pieces.result.items c.made_of.result.items (λ n. n.halted ≡ None) c.made_of.ensures (λ a b p. search rules) in
-    all_asked pass_texts g.D.Disk.is_honest g.D.Disk.seen g.D.Disk.may_leave (λ j. j.0) (λ s. fours_of s.items) (λ n. n.log) (λ n. n.seats) (λ n. n.halted)
+    all_asked pass_texts g.D.Disk (λ j. j.0) (λ s. fours_of s.items) (λ n. n.log) (λ n. n.seats) (λ n. n.halted)
     c.made_of.result.items c.args.journals.items c.args.seats.items logs seats going c.requires.held.each
 
 pub returns-clause-waiting : goal.returns-clause-waiting

@@ -11,7 +11,7 @@ pub returns-in-Err-clause-any_moment : goal.returns-in-Err-clause-any_moment
 returns-in-Err-clause-any_moment g c honest some =
     let disk = g.D.Disk in
     let e = c.is_empty.ensures in
-    read_moment disk.moment disk.left_since disk.may_leave c.args.disk c.is_empty.new.disk (λ f left. g.met.D.Disk.only_now c.args.disk f honest left) (e.time honest) (e.unchanged honest).nothing_new
+    read_moment disk c.args.disk c.is_empty.new.disk (λ f left. g.met.D.Disk.only_now c.args.disk f honest left) (e.time honest) (e.unchanged honest).nothing_new
 
 pub returns-in-Err-clause-refused : goal.returns-in-Err-clause-refused
 returns-in-Err-clause-refused g c honest memory device = absurd (memory (c.in-Err.ensures.faults device))
@@ -58,7 +58,7 @@ returns-in-Err-create-clause-refused g c honest memory device = absurd (memory (
 pub returns-in-Err-create-clause-unwritten : goal.returns-in-Err-create-clause-unwritten
 returns-in-Err-create-clause-unwritten g c honest device =
     let disk = g.D.Disk in
-    unchanged_over disk.seen disk.may_leave c.args.disk c.is_empty.new.disk c.in-Err-create.refused.0 (c.is_empty.ensures.unchanged honest)
+    unchanged_over disk c.args.disk c.is_empty.new.disk c.in-Err-create.refused.0 (c.is_empty.ensures.unchanged honest)
     (c.in-Err-create.ensures.unwritten (c.is_empty.ensures.honest.1 honest) device)
 
 pub returns-in-Err-create-clause-failed : goal.returns-in-Err-create-clause-failed
@@ -85,15 +85,15 @@ returns-in-Ok-open-clause-listed g c honest some =
 pub returns-in-Ok-open-clause-unchanged : goal.returns-in-Ok-open-clause-unchanged
 returns-in-Ok-open-clause-unchanged g c honest some =
     let disk = g.D.Disk in
-    unchanged_over disk.seen disk.may_leave c.args.disk c.is_empty.new.disk c.in-Ok-open.opened.0.disk (c.is_empty.ensures.unchanged honest)
+    unchanged_over disk c.args.disk c.is_empty.new.disk c.in-Ok-open.opened.0.disk (c.is_empty.ensures.unchanged honest)
     (c.in-Ok-open.ensures.unchanged (c.is_empty.ensures.honest.1 honest))
 
 pub returns-in-Ok-open-clause-any_moment : goal.returns-in-Ok-open-clause-any_moment
 returns-in-Ok-open-clause-any_moment g c honest some =
     let disk = g.D.Disk in
     let e = c.is_empty.ensures in
-    let first = read_moment disk.moment disk.left_since disk.may_leave c.args.disk c.is_empty.new.disk (λ f left. g.met.D.Disk.only_now c.args.disk f honest left) (e.time honest) (e.unchanged honest).nothing_new in
-    and_then disk.moment disk.left_since disk.may_leave c.args.disk c.is_empty.new.disk c.in-Ok-open.opened.0.disk first (e.unchanged honest).nothing_new
+    let first = read_moment disk c.args.disk c.is_empty.new.disk (λ f left. g.met.D.Disk.only_now c.args.disk f honest left) (e.time honest) (e.unchanged honest).nothing_new in
+    and_then disk c.args.disk c.is_empty.new.disk c.in-Ok-open.opened.0.disk first (e.unchanged honest).nothing_new
     (c.in-Ok-open.ensures.any_moment (e.honest.1 honest))
 
 pub returns-in-Err-open-clause-honest : goal.returns-in-Err-open-clause-honest
@@ -102,21 +102,21 @@ returns-in-Err-open-clause-honest g c = both_ways c.in-Err-open.ensures.honest c
 pub returns-in-Err-open-clause-unchanged : goal.returns-in-Err-open-clause-unchanged
 returns-in-Err-open-clause-unchanged g c honest some =
     let disk = g.D.Disk in
-    unchanged_over disk.seen disk.may_leave c.args.disk c.is_empty.new.disk c.in-Err-open.refused.0 (c.is_empty.ensures.unchanged honest)
+    unchanged_over disk c.args.disk c.is_empty.new.disk c.in-Err-open.refused.0 (c.is_empty.ensures.unchanged honest)
     (c.in-Err-open.ensures.unchanged (c.is_empty.ensures.honest.1 honest))
 
 pub returns-in-Err-open-clause-unwritten : goal.returns-in-Err-open-clause-unwritten
 returns-in-Err-open-clause-unwritten g c honest device =
     let disk = g.D.Disk in
-    unchanged_over disk.seen disk.may_leave c.args.disk c.is_empty.new.disk c.in-Err-open.refused.0 (c.is_empty.ensures.unchanged honest)
+    unchanged_over disk c.args.disk c.is_empty.new.disk c.in-Err-open.refused.0 (c.is_empty.ensures.unchanged honest)
     (c.in-Err-open.ensures.unchanged (c.is_empty.ensures.honest.1 honest))
 
 pub returns-in-Err-open-clause-any_moment : goal.returns-in-Err-open-clause-any_moment
 returns-in-Err-open-clause-any_moment g c honest some =
     let disk = g.D.Disk in
     let e = c.is_empty.ensures in
-    let first = read_moment disk.moment disk.left_since disk.may_leave c.args.disk c.is_empty.new.disk (λ f left. g.met.D.Disk.only_now c.args.disk f honest left) (e.time honest) (e.unchanged honest).nothing_new in
-    and_then disk.moment disk.left_since disk.may_leave c.args.disk c.is_empty.new.disk c.in-Err-open.refused.0 first (e.unchanged honest).nothing_new
+    let first = read_moment disk c.args.disk c.is_empty.new.disk (λ f left. g.met.D.Disk.only_now c.args.disk f honest left) (e.time honest) (e.unchanged honest).nothing_new in
+    and_then disk c.args.disk c.is_empty.new.disk c.in-Err-open.refused.0 first (e.unchanged honest).nothing_new
     (c.in-Err-open.ensures.any_moment (e.honest.1 honest))
 
 pub returns-in-Err-open-clause-refused : goal.returns-in-Err-open-clause-refused

@@ -1,5 +1,5 @@
 -- The old disk is read, and then the node comes back over the new one.
-use Rattle.std.proofs.Common.{◌*◌, List, ℕ, length, Some, None, Err, inl, inr, sym, ap, ◌∙◌, subst}
+use Rattle.std.proofs.Common.{◌*◌, List, ℕ, length, Some, None, Err, sym, ap, ◌∙◌, subst}
 use Rattle.acceptor_log.specs.Acknowledged.{acknowledged}
 use Rattle.acceptor_log_form.specs.Text.{StandsFor}
 use Rattle.farm_nodes_restart_node.specs.Fours.{fours_of}
@@ -7,6 +7,8 @@ use Rattle.farm_nodes_restart_node.specs.Texts.{pass_texts}
 use Rattle.farm_nodes_restart_node.specs.Returned.{HasReason}
 use Rattle.farm_nodes_restart_seat.specs.declared.fault.RestartFault.{RestartFault}
 use Rattle.farm_nodes_open_old.proofs.Shows.{shows_first}
+use Rattle.durable_pair.specs.Images.{Images}
+use Rattle.farm_nodes_restart_disks.proofs.Own.{cause_before, cause_over}
 use Rattle.farm_nodes_restart_disks.proofs.OverPair.{counts_from, is_shown, is_untouched, moments_over, one_fault, same_untouched}
 use Rattle.farm_nodes_restart_disks.proofs.Telling.{one_told}
 use Rattle.farm_nodes_restart_disks.proofs.opening.come_back_on.Goals as goal
@@ -61,11 +63,12 @@ returns-in-Err-come_back-clause-any_moment g c is =
 
 pub returns-in-Err-come_back-clause-refused : goal.returns-in-Err-come_back-clause-refused
 returns-in-Err-come_back-clause-refused g c is =
-    inr (
-      c.in-Ok.ensures.spent is,
-      subst (λ (bytes : List ℕ). HasReason pass_texts c.args.header.now (4 * length c.args.seats.now.items) (fours_of c.args.seats.now.items) c.args.room c.args.pending.now bytes c.in-Err-come_back.refused.1)
-          (c.no_old_journal.ensures.same is).new_same (c.in-Err-come_back.ensures.refused (c.in-Ok.ensures.honest is)),
-    )
+    let rooms = 4 * length c.args.seats.now.items in
+    let seats = fours_of c.args.seats.now.items in
+    let im : Images = (g.P.Disk.seen c.args.pair, g.P.Pair.old_seen c.args.pair) in
+    cause_over pass_texts c.args.header.now rooms seats c.args.room c.args.pending.now im c.in-Err-come_back.refused.1 (c.in-Ok.ensures.spent is)
+    (subst (λ (bytes : List ℕ). HasReason pass_texts c.args.header.now rooms seats c.args.room c.args.pending.now bytes c.in-Err-come_back.refused.1)
+    (c.no_old_journal.ensures.same is).new_same (c.in-Err-come_back.ensures.refused (c.in-Ok.ensures.honest is)))
 
 pub returns-in-Err-clause-whole : goal.returns-in-Err-clause-whole
 returns-in-Err-clause-whole g c is = c.no_old_journal.ensures.whole.1 is
@@ -80,7 +83,10 @@ returns-in-Err-clause-any_moment g c is =
     c.args.pair c.no_old_journal.new.pair (c.no_old_journal.ensures.any_moment is)
 
 pub returns-in-Err-clause-refused : goal.returns-in-Err-clause-refused
-returns-in-Err-clause-refused g c is = inl (c.in-Err.ensures.refused is)
+returns-in-Err-clause-refused g c is =
+    let im : Images = (g.P.Disk.seen c.args.pair, g.P.Pair.old_seen c.args.pair) in
+    cause_before pass_texts c.args.header.now (4 * length c.args.seats.now.items) (fours_of c.args.seats.now.items) c.args.room c.args.pending.now im c.in-Err.fault
+    (c.in-Err.ensures.refused is)
 
 pub returns-in-Ok-come_back-clause-failures : goal.returns-in-Ok-come_back-clause-failures
 returns-in-Ok-come_back-clause-failures g c =

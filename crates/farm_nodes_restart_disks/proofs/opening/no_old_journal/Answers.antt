@@ -13,7 +13,7 @@ use Rattle.farm_nodes_restart_disks.proofs.opening.no_old_journal.Goals as goal
 pub returns-in-Ok-Counts-clause-refused : goal.returns-in-Ok-Counts-clause-refused
 returns-in-Ok-Counts-clause-refused g c is =
     let counts = subst (λ (found : OldDisk). IsOldDisk (g.P.Pair.old_seen c.args.pair.now) found) c.in-Ok-Counts.field-0-is (c.in-Ok-Counts.ensures.told is) in
-    inr (inr (λ spent. spent counts, refl))
+    inr (λ spent. spent counts, refl)
 
 pub returns-in-Ok-Counts-clause-unfailed : goal.returns-in-Ok-Counts-clause-unfailed
 returns-in-Ok-Counts-clause-unfailed g c other = c.old_disk.ensures.unfailed (λ bad. let both = sym c.in-Ok-Counts.is ∙ bad in absurd (cc))

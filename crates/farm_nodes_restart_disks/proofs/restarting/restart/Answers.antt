@@ -31,7 +31,7 @@ returns-in-Ok-clause-asked g c =
     let old = fours_of c.args.node.seats.items in
     let fresh = c.in-Ok.fresh in
     let same : c.in-Ok.fresh.header ≡ c.args.node.log.header = c.in-Ok.ensures.ok.1 ∙ c.header.ensures in (
-      sound_back pass_texts disk.is_honest disk.seen disk.may_leave fresh old (fours_of c.come_back_on.new.seats.items) (4 * length c.args.node.seats.items)
+      sound_back pass_texts disk fresh old (fours_of c.come_back_on.new.seats.items) (4 * length c.args.node.seats.items)
           c.in-Ok.ensures.sound c.in-Ok.ensures.ok.0
           (ap (λ (n : ℕ). 4 * n) (sym (length-map c.come_back_on.new.seats.items four_of ∙ c.come_back_on.ensures.count)))
           (subst (λ (h : Header). AreSeatsOf h (fours_of c.args.node.seats.items)) (sym same) c.requires.asked.0.own) c.requires.asked.0.of_runs c.in-Ok.ensures.rest
@@ -45,7 +45,7 @@ returns-in-Ok-clause-asked g c =
 pub returns-in-Err-clause-asked : goal.returns-in-Err-clause-asked
 returns-in-Err-clause-asked g c =
     let disk = g.P.Disk in (
-      sound_refused pass_texts disk.is_honest disk.seen disk.may_leave c.args.node.log
+      sound_refused pass_texts disk c.args.node.log
           (fours_of c.args.node.seats.items) (fours_of c.come_back_on.new.seats.items) c.args.node.halted
           (record { room = c.unfinished-room.result.0; halt = record { fault = c.told.result; pending = c.unfinished-room.result.1 } })
           c.unfinished-room.ensures.room c.unfinished-room.ensures.pending c.in-Err.ensures.err c.requires.asked.0,
@@ -108,7 +108,7 @@ returns-in-Err-clause-refused g c =
             untouched = c.in-Err.ensures.untouched whole;
             cause = cause;
             own = λ left.
-                own_fault pass_texts disk.is_honest disk.seen disk.may_leave c.args.node.log seats c.args.node.halted
+                own_fault pass_texts disk c.args.node.log seats c.args.node.halted
                 im.0 c.requires.asked.0 left.honest (law.new_is_left at im.0 left.honest left.shows.left.0) c.in-Err.fault
                 (cause_of pass_texts c.args.node.log.header (4 * length seats) seats (room_in c.args.node.halted) (left_by c.args.node.halted) im c.in-Err.fault
                 (left.shows.spent (law.honest_spent at left.shows.old left.honest left.shows.left.1))

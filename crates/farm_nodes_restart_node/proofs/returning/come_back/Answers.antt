@@ -1,5 +1,5 @@
 -- Why `come_back` meets its clauses `sound`, `ok`, `honest`, `unchanged` and 8 more.
-use Rattle.std.proofs.Common.{◌*◌, List, length, sym, ◌∙◌, subst, inr}
+use Rattle.std.proofs.Common.{◌*◌, List, length, sym, ◌∙◌, subst}
 use Rattle.acceptor_log_form.specs.declared.record.Record.{Record}
 use Rattle.acceptor_log_form.specs.Order.{AreInOrder}
 use Rattle.acceptor_log_form.specs.Text.{StandsFor}
@@ -10,7 +10,7 @@ use Rattle.farm_nodes_restart_records.specs.Texts.{pass_texts}
 use Rattle.farm_nodes_restart_node.specs.Returned.{HasReason, HoldsBack}
 use Rattle.farm_nodes_restart_node.proofs.Afterwards.{returned_over}
 use Rattle.farm_nodes_restart_node.proofs.Resting.{at_rest}
-use Rattle.farm_nodes_restart_node.proofs.Refusing.{journal_told, no_device, none_failed, not_opened, other_told}
+use Rattle.farm_nodes_restart_node.proofs.Refusing.{held_reason, journal_told, no_device, none_failed, not_opened, other_told}
 use Rattle.farm_nodes_restart_node.proofs.returning.come_back.Goals as goal
 
 pub returns-in-Ok-return_over-clause-sound : goal.returns-in-Ok-return_over-clause-sound
@@ -67,7 +67,8 @@ pub returns-in-Ok-clause-refused : goal.returns-in-Ok-clause-refused
 returns-in-Ok-clause-refused g c honest =
     let held = subst (λ (rs : List Record). HoldsBack pass_texts c.args.header.now (4 * length c.args.seats.now.items) (fours_of c.args.seats.now.items)
     c.args.room c.args.pending.now rs c.in-Err-return_over.fault) c.as_slice.ensures.value c.in-Err-return_over.ensures.refused in
-    inr (inr (inr (c.in-Ok.opened.1.items, c.in-Ok.ensures.listed honest, held)))
+    held_reason pass_texts c.args.header.now (4 * length c.args.seats.now.items) (fours_of c.args.seats.now.items) c.args.room c.args.pending.now
+    (g.D.Disk.seen c.args.disk) c.in-Ok.opened.1.items c.in-Err-return_over.fault (c.in-Ok.ensures.listed honest) held
 
 pub returns-in-Ok-return_over-clause-rest : goal.returns-in-Ok-return_over-clause-rest
 returns-in-Ok-return_over-clause-rest g c =

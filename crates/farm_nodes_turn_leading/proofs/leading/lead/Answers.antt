@@ -66,14 +66,14 @@ returns-in-Ok-act-clause-drawn g c =
 pub returns-in-Ok-act-clause-journal : goal.returns-in-Ok-act-clause-journal
 returns-in-Ok-act-clause-journal g c honest going =
     let disk = g.D.Disk in
-    subst (λ (t : Bool). Grown disk.is_honest disk.seen disk.may_leave disk.moment disk.left_since c.args.log.now c.act-2.new.log c.args.room c.args.seat.now c.act-2.new.seat t) (sym c.either.ensures)
-    (grown_on disk.is_honest disk.seen disk.may_leave disk.moment disk.left_since c.args.log.now c.act.new.log c.act-2.new.log c.args.room c.args.seat.now c.act.new.seat c.act-2.new.seat c.in-Ok.proposed c.in-Ok-act.started
+    subst (λ (t : Bool). Grown disk c.args.log.now c.act-2.new.log c.args.room c.args.seat.now c.act-2.new.seat t) (sym c.either.ensures)
+    (grown_on disk c.args.log.now c.act.new.log c.act-2.new.log c.args.room c.args.seat.now c.act.new.seat c.act-2.new.seat c.in-Ok.proposed c.in-Ok-act.started
     c.act.ensures.served.header (c.in-Ok.ensures.journal honest going)
     (c.in-Ok-act.ensures.journal (c.act.ensures.served.honest.1 honest) (c.in-Ok.ensures.going ∙ going)))
 
 pub returns-in-Err-act-clause-journal : goal.returns-in-Err-act-clause-journal
 returns-in-Err-act-clause-journal g c honest going =
     let disk = g.D.Disk in
-    stops_after disk.is_honest disk.seen disk.may_leave disk.moment disk.left_since c.args.log.now c.act.new.log c.act-2.new.log c.args.room c.args.seat.now c.act.new.seat c.act-2.new.seat c.in-Ok.proposed c.in-Err-act.stop
+    stops_after disk c.args.log.now c.act.new.log c.act-2.new.log c.args.room c.args.seat.now c.act.new.seat c.act-2.new.seat c.in-Ok.proposed c.in-Err-act.stop
     c.act.ensures.served.header (c.in-Ok.ensures.journal honest going)
     (c.in-Err-act.ensures.journal (c.act.ensures.served.honest.1 honest) (c.in-Ok.ensures.going ∙ going))

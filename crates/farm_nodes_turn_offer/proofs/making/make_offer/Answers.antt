@@ -20,8 +20,8 @@ returns-in-Err-clause-journal g c honest going =
     let log = c.args.log.now in
     let words = c.args.seat.now.words in
     let own = IsOwnText (IsOfferText g.P.In.Language g.P.Out.Language g.P.Pass) c.args.seat.now in
-    subst (λ (h : Halt). HasLeft own disk.seen disk.may_leave disk.moment disk.left_since log log c.args.room words words (left_over c.args.room words h.pending)) (sym c.idle.ensures)
-    (nothing_left disk.is_honest disk.seen disk.may_leave disk.moment disk.left_since own log c.args.room words (c.requires.sound honest going)
+    subst (λ (h : Halt). HasLeft own disk log log c.args.room words words (left_over c.args.room words h.pending)) (sym c.idle.ensures)
+    (nothing_left disk own log c.args.room words (c.requires.sound honest going)
     (λ b left. g.met.D.Disk.only_now log.disk b honest left))
 
 pub returns-in-Ok-lay-clause-journal : goal.returns-in-Ok-lay-clause-journal
@@ -35,7 +35,7 @@ returns-in-Ok-lay-clause-journal g c honest going =
     let ready = c.append.ensures.sound (c.append.ensures.honest.1 honest) c.in-Ok-append.ensures.ok.1 in (
       record {
         ready = ready;
-        advances = one disk.seen disk.may_leave disk.moment disk.left_since disk.is_honest old new c.args.room c.args.seat.now.words c.lay.new.seat.words r
+        advances = one disk old new c.args.room c.args.seat.now.words c.lay.new.seat.words r
             (offer_follows c.args.room _ _ r c.args.seat.now c.lay.new.seat c.in-Ok.ensures.entry c.in-Ok-lay.ensures.ok)
             c.append.ensures.same ready added (c.append.ensures.any_moment honest going);
         moved = more (acknowledged disk.seen old) (acknowledged disk.seen new) r added;
@@ -53,10 +53,10 @@ returns-in-Err-lay-clause-journal g c honest going =
     let s = c.args.seat.now.words in
     let same = same_words c.args.seat.now c.lay.new.seat c.in-Err-lay.ensures.err in
     let own = IsOwnText (IsOfferText g.P.In.Language g.P.Out.Language g.P.Pass) c.lay.new.seat in
-    subst (λ (t : SeatState). HasLeft own disk.seen disk.may_leave disk.moment disk.left_since old new c.args.room s t (left_over c.args.room t c.offering.result.pending)) (sym same)
-    (subst (λ (h : Halt). HasLeft own disk.seen disk.may_leave disk.moment disk.left_since old new c.args.room s s (left_over c.args.room s h.pending)) (sym c.offering.ensures) (
+    subst (λ (t : SeatState). HasLeft own disk old new c.args.room s t (left_over c.args.room t c.offering.result.pending)) (sym same)
+    (subst (λ (h : Halt). HasLeft own disk old new c.args.room s s (left_over c.args.room s h.pending)) (sym c.offering.ensures) (
       acknowledged disk.seen old,
-      perhaps disk.seen disk.may_leave disk.moment disk.left_since old new c.args.room s c.in-Ok.made.0
+      perhaps disk old new c.args.room s c.in-Ok.made.0
           (ap room_of c.in-Ok.ensures.entry)
           (λ last fresh. offer_goes c.args.room _ c.in-Ok.made.0 c.args.seat.now c.in-Ok.ensures.entry c.requires.first last)
           (λ b left later. g.met.D.Disk.counts_now new.disk (disk.moment old.disk) b (c.append.ensures.honest.1 honest) later left)
@@ -71,9 +71,9 @@ returns-in-Err-append-clause-journal g c honest going =
     let new = c.append.new.self in
     let s = c.args.seat.now.words in
     let own = IsOwnText (IsOfferText g.P.In.Language g.P.Out.Language g.P.Pass) c.args.seat.now in
-    subst (λ (h : Halt). HasLeft own disk.seen disk.may_leave disk.moment disk.left_since old new c.args.room s s (left_over c.args.room s h.pending)) (sym c.offering-in-Err-append.ensures) (
+    subst (λ (h : Halt). HasLeft own disk old new c.args.room s s (left_over c.args.room s h.pending)) (sym c.offering-in-Err-append.ensures) (
       acknowledged disk.seen old,
-      perhaps disk.seen disk.may_leave disk.moment disk.left_since old new c.args.room s c.in-Ok.made.0
+      perhaps disk old new c.args.room s c.in-Ok.made.0
           (ap room_of c.in-Ok.ensures.entry)
           (λ last fresh. offer_goes c.args.room _ c.in-Ok.made.0 c.args.seat.now c.in-Ok.ensures.entry c.requires.first last)
           (λ b left later. g.met.D.Disk.counts_now new.disk (disk.moment old.disk) b (c.append.ensures.honest.1 honest) later left)

@@ -26,8 +26,8 @@ returns-in-Err-clause-journal g c honest going =
     let log = c.args.log.now in
     let words = c.args.seat.now.words in
     let own = IsOwnText (IsOfferText g.P.In.Language g.P.Out.Language g.P.Pass) c.args.seat.now in
-    subst (λ (h : Halt). HasLeft own disk.seen disk.may_leave disk.moment disk.left_since log log c.args.room words words (left_over c.args.room words h.pending)) (sym c.idle.ensures)
-    (nothing_left disk.is_honest disk.seen disk.may_leave disk.moment disk.left_since own log c.args.room words (c.requires honest going)
+    subst (λ (h : Halt). HasLeft own disk log log c.args.room words words (left_over c.args.room words h.pending)) (sym c.idle.ensures)
+    (nothing_left disk own log c.args.room words (c.requires honest going)
     (λ b left. g.met.D.Disk.only_now log.disk b honest left))
 
 pub returns-then-offered-clause-journal : goal.returns-then-offered-clause-journal
@@ -35,7 +35,7 @@ returns-then-offered-clause-journal g c honest going =
     let disk = g.D.Disk in
     let log = c.args.log.now in
     let own = IsOwnText (IsOfferText g.P.In.Language g.P.Out.Language g.P.Pass) c.args.seat.now in (
-      idle_grown disk.is_honest disk.seen disk.may_leave disk.moment disk.left_since log c.args.room c.args.seat.now.words (c.requires honest going)
+      idle_grown disk log c.args.room c.args.seat.now.words (c.requires honest going)
           (λ b left. g.met.D.Disk.only_now log.disk b honest left),
       tell_none own c.args.room c.args.seat.now.words (acknowledged disk.seen log) (acknowledged disk.seen log),
     )
@@ -45,7 +45,7 @@ returns-in_default-clause-journal g c honest going =
     let disk = g.D.Disk in
     let log = c.args.log.now in
     let own = IsOwnText (IsOfferText g.P.In.Language g.P.Out.Language g.P.Pass) c.args.seat.now in (
-      idle_grown disk.is_honest disk.seen disk.may_leave disk.moment disk.left_since log c.args.room c.args.seat.now.words (c.requires honest going)
+      idle_grown disk log c.args.room c.args.seat.now.words (c.requires honest going)
           (λ b left. g.met.D.Disk.only_now log.disk b honest left),
       tell_none own c.args.room c.args.seat.now.words (acknowledged disk.seen log) (acknowledged disk.seen log),
     )

@@ -21,7 +21,7 @@ returns-clause-made g c =
 pub returns-clause-journal : goal.returns-clause-journal
 returns-clause-journal g c honest going =
     let disk = g.D.Disk in
-    played_seeing (IsOfferText g.P.In.Language g.P.Out.Language g.P.Pass) disk.is_honest disk.seen disk.may_leave disk.moment disk.left_since c.args.log.now c.take_steps.new.log c.args.room c.args.seat.now.words
+    played_seeing (IsOfferText g.P.In.Language g.P.Out.Language g.P.Pass) disk c.args.log.now c.take_steps.new.log c.args.room c.args.seat.now.words
     c.take_steps.new.seat c.fetch_learned.new.seat c.in-Ok.moved c.of.result c.fetch_learned.ensures.words c.fetch_learned.ensures.seen (c.in-Ok.ensures.journal honest going)
     (c.of.ensures
     ∙ (ap (λ o. progress_of o c.learned.result c.in-Ok.moved) c.learned-before.ensures.value

@@ -59,7 +59,7 @@ returns-clause-journal g c honest going =
     let had = IsOwnText IsText record { words = m; sights = c.seat.inside.sights } in
     let has = IsOwnText IsText record { words = t; sights = c.seat.inside.sights } in
     let first = seat_is
-    (λ u. Grown disk.is_honest disk.seen disk.may_leave disk.moment disk.left_since old mid c.args.room s u.words c.in-Ok.offered
+    (λ u. Grown disk old mid c.args.room s u.words c.in-Ok.offered
     × TellNew (IsOwnText IsText u) c.args.room s u.words (acknowledged disk.seen old) (acknowledged disk.seen mid))
     c.offer_on.new.seat m c.seat.inside.sights c.seat.view_is (c.in-Ok.ensures.journal honest going) in
     let stays = own_taking IsText m t c.seat.inside.sights remains.me in
@@ -67,17 +67,17 @@ returns-clause-journal g c honest going =
     let going_mid = c.in-Ok.ensures.going ∙ going in
     elim c.match-take_part.branch [
       | in-Ok-take_part w ↦
-          recorded_ok has disk.is_honest disk.seen disk.may_leave disk.moment disk.left_since old new c.args.room s t c.match-take_part.result w.either.result (c.in-Ok.offered || w.in-Ok-take_part.moved)
+          recorded_ok has disk old new c.args.room s t c.match-take_part.result w.either.result (c.in-Ok.offered || w.in-Ok-take_part.moved)
           w.result-is w.either.ensures
-          (grown_on disk.is_honest disk.seen disk.may_leave disk.moment disk.left_since old mid new c.args.room s m t c.in-Ok.offered w.in-Ok-take_part.moved
+          (grown_on disk old mid new c.args.room s m t c.in-Ok.offered w.in-Ok-take_part.moved
           c.offer_on.ensures.served.header first.0 (w.in-Ok-take_part.ensures.journal honest_mid going_mid))
-          (told_after disk.is_honest disk.seen disk.may_leave disk.moment disk.left_since had has old mid new c.args.room s m t c.in-Ok.offered w.in-Ok-take_part.moved
+          (told_after disk had has old mid new c.args.room s m t c.in-Ok.offered w.in-Ok-take_part.moved
           first.0 (w.in-Ok-take_part.ensures.journal honest_mid going_mid) remains.offered stays first.1)
       | in-Err-take_part w ↦
-          recorded_err has disk.is_honest disk.seen disk.may_leave disk.moment disk.left_since old new c.args.room s t c.match-take_part.result w.stopped.result
+          recorded_err has disk old new c.args.room s t c.match-take_part.result w.stopped.result
           record { fault = fault_by_journal w.in-Err-take_part.stop.error; pending = Some w.in-Err-take_part.stop.pending }
           w.result-is w.stopped.ensures
-          (left_after disk.is_honest disk.seen disk.may_leave disk.moment disk.left_since had has old mid new c.args.room s m t c.in-Ok.offered _
+          (left_after disk had has old mid new c.args.room s m t c.in-Ok.offered _
           c.offer_on.ensures.served.header first.0 remains.offered stays first.1 (w.in-Err-take_part.ensures.journal honest_mid going_mid))
     ]
 
@@ -102,15 +102,15 @@ returns-clause-cause g c going =
     let new = c.take_part.new.log in
     let t = c.take_part.new.seat in
     let TooLarge = IsTooLarge g.P.Pass.too_large (option_copied c.args.input) in
-    let P = λ (halt : Halt). HasHaltCause disk.is_honest disk.faults TooLarge old new (left_over c.args.room t halt.pending) halt.fault in
+    let P = λ (halt : Halt). HasHaltCause disk TooLarge old new (left_over c.args.room t halt.pending) halt.fault in
     elim c.match-take_part.branch [
       | in-Ok-take_part w ↦ if_went_on P c.match-take_part.result w.either.result w.result-is
       | in-Err-take_part w ↦
           if_halted P c.match-take_part.result w.stopped.result
           record { fault = fault_by_journal w.in-Err-take_part.stop.error; pending = Some w.in-Err-take_part.stop.pending }
           w.result-is w.stopped.ensures
-          (halt_cause disk.is_honest disk.faults TooLarge old new (pending_of c.args.room t w.in-Err-take_part.stop.pending) w.in-Err-take_part.stop.error
-          (later_cause disk.is_honest disk.faults old mid new (pending_of c.args.room t w.in-Err-take_part.stop.pending) w.in-Err-take_part.stop.error
+          (halt_cause disk TooLarge old new (pending_of c.args.room t w.in-Err-take_part.stop.pending) w.in-Err-take_part.stop.error
+          (later_cause disk old mid new (pending_of c.args.room t w.in-Err-take_part.stop.pending) w.in-Err-take_part.stop.error
           c.offer_on.ensures.served.honest c.offer_on.ensures.served.later
           (w.in-Err-take_part.ensures.cause (c.in-Ok.ensures.going ∙ going))))
     ]

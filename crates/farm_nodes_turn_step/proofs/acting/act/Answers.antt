@@ -22,7 +22,7 @@ returns-in-Ok-clause-journal g c honest going =
     let ready = c.append.ensures.sound (c.append.ensures.honest.1 honest) c.in-Ok.ensures.ok.1 in
     record {
       ready = ready;
-      advances = one disk.seen disk.may_leave disk.moment disk.left_since disk.is_honest old new c.args.room c.args.seat.now c.take.new.seat r
+      advances = one disk old new c.args.room c.args.seat.now c.take.new.seat r
           (step_follows c.args.room c.args.seat.now c.take.new.seat c.args.act c.in-Some.step r c.bounds.ensures c.requires.among c.in-Some.ensures c.record_of.ensures c.take.ensures
           (step_kept c.args.room c.args.seat.now c.take.new.seat c.args.act c.in-Some.step r c.in-Some.ensures c.record_of.ensures c.take.ensures))
           c.append.ensures.same ready added (c.append.ensures.any_moment honest going);
@@ -38,8 +38,8 @@ returns-clause-journal g c honest going =
     let s = c.args.seat.now in
     let pending = pending_is c.args.room c.args.seat.now c.args.act c.in-Some.step r c.in-Some.ensures c.record_of.ensures in (
       acknowledged disk.seen old,
-      subst (λ (p : List Record). JournalAdvances disk.seen disk.may_leave disk.moment disk.left_since old new c.args.room s s (acknowledged disk.seen old) p) (sym pending)
-          (perhaps disk.seen disk.may_leave disk.moment disk.left_since old new c.args.room s r
+      subst (λ (p : List Record). JournalAdvances disk old new c.args.room s s (acknowledged disk.seen old) p) (sym pending)
+          (perhaps disk old new c.args.room s r
           (ap room_of c.record_of.ensures ∙ room_of_step c.args.room c.in-Some.step)
           (λ last fresh. subst (λ (q : Record). MayComeNext s.node.quorums.nodes s.node.me s.node.kept last q) (sym c.record_of.ensures)
           (step_goes c.args.room s c.bounds.ensures last fresh c.args.act c.in-Some.step c.requires.among c.in-Some.ensures))
@@ -51,5 +51,5 @@ pub returns-in_default-clause-journal : goal.returns-in_default-clause-journal
 returns-in_default-clause-journal g c honest going =
     let disk = g.D.Disk in
     let log = c.args.log.now in
-    idle disk.is_honest disk.seen disk.may_leave disk.moment disk.left_since log c.args.room c.args.seat.now (c.requires.sound honest going)
+    idle disk log c.args.room c.args.seat.now (c.requires.sound honest going)
     (λ b left. g.met.D.Disk.only_now log.disk b honest left)

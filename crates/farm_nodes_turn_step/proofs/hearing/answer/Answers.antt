@@ -29,6 +29,6 @@ returns-then-moved-clause-others g c i lt quiet =
 pub returns-clause-journal : goal.returns-clause-journal
 returns-clause-journal g c honest going =
     let disk = g.D.Disk in
-    goes_on disk.is_honest disk.seen disk.may_leave disk.moment disk.left_since c.args.log.now c.act.new.log c.act-2.new.log c.args.room c.args.seat.now c.act.new.seat c.act-2.new.seat c.in-Ok.moved c.act-2.result
+    goes_on disk c.args.log.now c.act.new.log c.act-2.new.log c.args.room c.args.seat.now c.act.new.seat c.act-2.new.seat c.in-Ok.moved c.act-2.result
     c.act.ensures.served.header (c.in-Ok.ensures.journal honest going) c.if-moved.false
     (c.act-2.ensures.journal (c.act.ensures.served.honest.1 honest) (c.in-Ok.ensures.going ∙ going))

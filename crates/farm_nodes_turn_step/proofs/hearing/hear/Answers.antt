@@ -39,7 +39,7 @@ returns-clause-journal g c honest going =
     let s1 = c.look_proposer-proposer.new.self in
     let s2 = c.answer.new.seat in
     let t = c.look_acceptor-acceptor.new.self in
-    grown_at disk.is_honest disk.seen disk.may_leave disk.moment disk.left_since c.args.log.now c.answer.new.log c.args.room s1 s2 s t c.in-Ok.moved
+    grown_at disk c.args.log.now c.answer.new.log c.args.room s1 s2 s t c.in-Ok.moved
     (same_turned s s1 (looked_proposer c.args.j c.look_proposer-proposer.result s s1 c.look_proposer-proposer.ensures))
     (looked_acceptor c.args.j c.look_acceptor-acceptor.result s2 t c.look_acceptor-acceptor.ensures)
     (c.in-Ok.ensures.journal honest going)
@@ -49,6 +49,6 @@ returns-in-Err-clause-journal g c honest going =
     let disk = g.D.Disk in
     let s = c.args.seat.now in
     let s1 = c.look_proposer-proposer.new.self in
-    stopped_at disk.is_honest disk.seen disk.may_leave disk.moment disk.left_since c.args.log.now c.answer.new.log c.args.room s1 s c.answer.new.seat c.in-Err.stop
+    stopped_at disk c.args.log.now c.answer.new.log c.args.room s1 s c.answer.new.seat c.in-Err.stop
     (same_turned s s1 (looked_proposer c.args.j c.look_proposer-proposer.result s s1 c.look_proposer-proposer.ensures))
     (c.in-Err.ensures.journal honest going)

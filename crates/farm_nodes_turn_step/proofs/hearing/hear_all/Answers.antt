@@ -11,7 +11,7 @@ pub returns-in-Err-clause-journal : goal.returns-in-Err-clause-journal
 returns-in-Err-clause-journal g c honest going =
     let disk = g.D.Disk in
     let inv = c.loop-j.invariant in
-    stops_after disk.is_honest disk.seen disk.may_leave disk.moment disk.left_since c.args.log.now c.loop-j.log c.hear.new.log c.args.room c.args.seat.now c.loop-j.seat c.hear.new.seat c.loop-j.moved c.in-Err.stop
+    stops_after disk c.args.log.now c.loop-j.log c.hear.new.log c.args.room c.args.seat.now c.loop-j.seat c.hear.new.seat c.loop-j.moved c.in-Err.stop
     inv.served.header (inv.journal honest going)
     (c.in-Err.ensures.journal (inv.served.honest.1 honest) (inv.going ∙ going))
 
@@ -26,7 +26,7 @@ loop-j-init g c =
       nodes = c.count-j-end.ensures.value;
       quiet = λ i lt. absurd (omega (arith, lt));
       journal = λ honest going.
-          idle disk.is_honest disk.seen disk.may_leave disk.moment disk.left_since log c.args.room c.args.seat.now (c.requires honest going)
+          idle disk log c.args.room c.args.seat.now (c.requires honest going)
           (λ b left. g.met.D.Disk.only_now log.disk b honest left);
     }
 
@@ -58,8 +58,8 @@ loop-j-preserved g c =
                 subst (λ (k : ℕ). IsQuiet k c.hear.new.seat) same c.in-Ok.ensures.quiet
           ];
       journal = λ honest going.
-          subst (λ (t : Bool). Grown disk.is_honest disk.seen disk.may_leave disk.moment disk.left_since c.args.log.now c.hear.new.log c.args.room c.args.seat.now c.hear.new.seat t) (sym either)
-          (grown_on disk.is_honest disk.seen disk.may_leave disk.moment disk.left_since c.args.log.now c.loop-j.log c.hear.new.log c.args.room c.args.seat.now c.loop-j.seat c.hear.new.seat c.loop-j.moved c.in-Ok.again
+          subst (λ (t : Bool). Grown disk c.args.log.now c.hear.new.log c.args.room c.args.seat.now c.hear.new.seat t) (sym either)
+          (grown_on disk c.args.log.now c.loop-j.log c.hear.new.log c.args.room c.args.seat.now c.loop-j.seat c.hear.new.seat c.loop-j.moved c.in-Ok.again
           inv.served.header (inv.journal honest going)
           (c.in-Ok.ensures.journal (inv.served.honest.1 honest) (inv.going ∙ going)));
     }

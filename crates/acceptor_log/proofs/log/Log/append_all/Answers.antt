@@ -108,10 +108,10 @@ returns-in-Err-NoMemory-clause-sound g c honest going =
     let was = c.put.ensures.honest.0 honest in
     let ready = c.requires was going in
     let same = (returns-in-Err-NoMemory-clause-unwritten g c was memory_is_no_device).0 in
-    let rests = rests-unchanged disk.is_honest disk.seen disk.may_leave old.header (acknowledged disk.seen old) old.gate old.disk new ready.rests honest same in
+    let rests = rests-unchanged disk old.header (acknowledged disk.seen old) old.gate old.disk new ready.rests honest same in
     record {
-      rests = rests-first_of disk.is_honest disk.seen disk.may_leave old.header (acknowledged disk.seen old) old.gate old.count new rests ready.counted;
-      counted = counted-first_of disk.is_honest disk.seen disk.may_leave old.header (acknowledged disk.seen old) old.gate old.count new rests ready.counted;
+      rests = rests-first_of disk old.header (acknowledged disk.seen old) old.gate old.count new rests ready.counted;
+      counted = counted-first_of disk old.header (acknowledged disk.seen old) old.gate old.count new rests ready.counted;
     }
 
 pub returns-in-Ok-put-clause-added : goal.returns-in-Ok-put-clause-added
@@ -125,7 +125,7 @@ returns-in-Ok-put-clause-added g c honest going =
     let are_blocks : AreBlocks entries c.as_slice.result.now = blocks-behind entries c.as_slice.result.now some c.in-Ok.ensures.fit (c.as_slice.ensures.value ∙ c.in-Ok.ensures.text) in
     let more = acknowledged disk.seen old ++ entries in
     let rests = c.in-Ok-put.ensures.written old.header (acknowledged disk.seen old) entries ready.rests are_blocks in
-    first_of-rests disk.is_honest disk.seen disk.may_leave old.header more (old.gate + length c.as_slice.result.now) (old.count + length entries) new rests
+    first_of-rests disk old.header more (old.gate + length c.as_slice.result.now) (old.count + length entries) new rests
     (omega (arith, ready.counted, length-append (acknowledged disk.seen old) entries))
 
 pub returns-in-Ok-put-clause-sound : goal.returns-in-Ok-put-clause-sound
@@ -143,9 +143,9 @@ returns-in-Ok-put-clause-sound g c honest going =
     let counted : old.count + length entries ≡ length more = omega (arith, ready.counted, length-append (acknowledged disk.seen old) entries) in
     let here : gate ≡ old.gate + c.len.result = omega (arith, ap length c.as_slice.ensures.value, c.in-Ok.block.ok.0) in
     record {
-      rests = subst (λ at. Rests disk.is_honest disk.seen disk.may_leave old.header (first_of old.header (old.count + length entries) (disk.seen new)) at new) here
-          (rests-first_of disk.is_honest disk.seen disk.may_leave old.header more gate (old.count + length entries) new rests counted);
-      counted = counted-first_of disk.is_honest disk.seen disk.may_leave old.header more gate (old.count + length entries) new rests counted;
+      rests = subst (λ at. Rests disk old.header (first_of old.header (old.count + length entries) (disk.seen new)) at new) here
+          (rests-first_of disk old.header more gate (old.count + length entries) new rests counted);
+      counted = counted-first_of disk old.header more gate (old.count + length entries) new rests counted;
     }
 
 pub returns-in-Ok-put-clause-bytes : goal.returns-in-Ok-put-clause-bytes

@@ -5,11 +5,11 @@ pub returns-clause-ready : goal.returns-clause-ready
 returns-clause-ready g c rs counted rests =
     let disk = g.D.Disk in
     record {
-      rests = rests-first_of disk.is_honest disk.seen disk.may_leave c.args.header.now rs c.args.gate c.args.count c.args.disk rests counted;
-      counted = counted-first_of disk.is_honest disk.seen disk.may_leave c.args.header.now rs c.args.gate c.args.count c.args.disk rests counted;
+      rests = rests-first_of disk c.args.header.now rs c.args.gate c.args.count c.args.disk rests counted;
+      counted = counted-first_of disk c.args.header.now rs c.args.gate c.args.count c.args.disk rests counted;
     }
 
 pub returns-clause-acknowledged : goal.returns-clause-acknowledged
 returns-clause-acknowledged g c rs counted rests =
     let disk = g.D.Disk in
-    first_of-rests disk.is_honest disk.seen disk.may_leave c.args.header.now rs c.args.gate c.args.count c.args.disk rests counted
+    first_of-rests disk c.args.header.now rs c.args.gate c.args.count c.args.disk rests counted

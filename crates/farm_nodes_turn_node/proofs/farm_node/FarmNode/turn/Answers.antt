@@ -20,8 +20,8 @@ pub returns-in-Ok-clause-asked : goal.returns-in-Ok-clause-asked
 returns-in-Ok-clause-asked g c =
     let disk = g.D.Disk in
     let none : c.args.self.now.halted ≡ None = none_of c.args.self.now.halted (sym c.is_some.ensures ∙ c.if-is_some.false) in (
-      subst (λ (h : Option Halted). IsSoundNode disk.is_honest disk.seen disk.may_leave c.turn_in.new.log (fours_of c.turn_in.new.seats.items) h) (sym none)
-          (sound_now pass_texts disk.is_honest disk.seen disk.may_leave disk.moment disk.left_since disk.faults four_of c.args.self.now.log c.turn_in.new.log c.args.room
+      subst (λ (h : Option Halted). IsSoundNode disk c.turn_in.new.log (fours_of c.turn_in.new.seats.items) h) (sym none)
+          (sound_now pass_texts disk four_of c.args.self.now.log c.turn_in.new.log c.args.room
           c.args.self.now.seats.items c.turn_in.new.seats.items c.args.self.now.halted c.turn_in.ensures.served c.requires.asked.0 c.requires.room none
           c.turn_in.ensures.count c.turn_in.ensures.others (λ x y p q. (c.turn_in.ensures.leaves x y p q).others)
           (λ x y p q. (c.turn_in.ensures.leaves x y p q).stays)
@@ -33,7 +33,7 @@ pub returns-in-Err-clause-asked : goal.returns-in-Err-clause-asked
 returns-in-Err-clause-asked g c =
     let disk = g.D.Disk in
     let none : c.args.self.now.halted ≡ None = none_of c.args.self.now.halted (sym c.is_some.ensures ∙ c.if-is_some.false) in (
-      sound_now pass_texts disk.is_honest disk.seen disk.may_leave disk.moment disk.left_since disk.faults four_of c.args.self.now.log c.turn_in.new.log c.args.room
+      sound_now pass_texts disk four_of c.args.self.now.log c.turn_in.new.log c.args.room
           c.args.self.now.seats.items c.turn_in.new.seats.items c.args.self.now.halted c.turn_in.ensures.served c.requires.asked.0 c.requires.room none
           c.turn_in.ensures.count c.turn_in.ensures.others (λ x y p q. (c.turn_in.ensures.leaves x y p q).others)
           (λ x y p q. (c.turn_in.ensures.leaves x y p q).stays)
@@ -113,13 +113,13 @@ returns-in-Ok-clause-tells g c =
       fault = λ was. ap failure_of c.of.ensures ∙ (went_on c.in-Ok.progress ∙ sym (ap fault_in was));
       cause = λ was named is x y p q.
           no_cause (failure_of c.of.result)
-          (λ (fault : Fault). HasHaltCause disk.is_honest disk.faults
+          (λ (fault : Fault). HasHaltCause disk
           (IsTooLargeFor named.function (pass_of c.args.room) (four_of x))
           c.args.self.now.log c.turn_in.new.log (pending_in (fours_of c.turn_in.new.seats.items) c.args.self.now.halted) fault)
           (ap failure_of c.of.ensures ∙ went_on c.in-Ok.progress);
       value = λ honest was x y p q.
           c.of.ensures
-          ∙ told_now pass_texts disk.is_honest disk.seen disk.may_leave disk.moment disk.left_since disk.faults four_of c.args.self.now.log c.turn_in.new.log c.args.room
+          ∙ told_now pass_texts disk four_of c.args.self.now.log c.turn_in.new.log c.args.room
           c.args.self.now.seats.items c.turn_in.new.seats.items c.args.self.now.halted c.turn_in.ensures.served c.requires.asked.0 c.requires.room none
           c.turn_in.ensures.count c.turn_in.ensures.others (λ x y p q. (c.turn_in.ensures.leaves x y p q).others)
           (λ x y p q. (c.turn_in.ensures.leaves x y p q).stays)
@@ -134,7 +134,7 @@ returns-in-Err-clause-tells g c =
       fault = λ was. refl;
       cause = λ was named is x y p q.
           let cause = c.in-Err.ensures.cause (c.requires.asked.0.going none) x y p q in
-          stops_for disk.is_honest disk.faults four_of
+          stops_for disk four_of
           (IsTooLargeFor named.function (pass_of c.args.room) (four_of x))
           c.args.self.now.log c.turn_in.new.log c.args.room c.turn_in.new.seats.items c.in-Err.halt y q
           (rw (c.function_in.ensures named (rw c.deref.ensures is)) at cause);
@@ -152,8 +152,8 @@ pub returns-in-Ok-clause-into : goal.returns-in-Ok-clause-into
 returns-in-Ok-clause-into g c honest was =
     let disk = g.D.Disk in
     let none : c.args.self.now.halted ≡ None = none_of c.args.self.now.halted (sym c.is_some.ensures ∙ c.if-is_some.false) in
-    subst (λ (h : Option Halted). TurnsInto disk.seen disk.may_leave disk.moment disk.left_since c.args.self.now.log c.turn_in.new.log (fours_of c.turn_in.new.seats.items) h) (sym none)
-    (into pass_texts disk.is_honest disk.seen disk.may_leave disk.moment disk.left_since disk.faults four_of c.args.self.now.log c.turn_in.new.log c.args.room
+    subst (λ (h : Option Halted). TurnsInto disk c.args.self.now.log c.turn_in.new.log (fours_of c.turn_in.new.seats.items) h) (sym none)
+    (into pass_texts disk four_of c.args.self.now.log c.turn_in.new.log c.args.room
     c.args.self.now.seats.items c.turn_in.new.seats.items c.args.self.now.halted c.turn_in.ensures.served c.requires.asked.0 c.requires.room none
     c.turn_in.ensures.count c.turn_in.ensures.others (λ x y p q. (c.turn_in.ensures.leaves x y p q).others)
     (λ x y p q. (c.turn_in.ensures.leaves x y p q).stays)
@@ -163,7 +163,7 @@ pub returns-in-Err-clause-into : goal.returns-in-Err-clause-into
 returns-in-Err-clause-into g c honest was =
     let disk = g.D.Disk in
     let none : c.args.self.now.halted ≡ None = none_of c.args.self.now.halted (sym c.is_some.ensures ∙ c.if-is_some.false) in
-    into pass_texts disk.is_honest disk.seen disk.may_leave disk.moment disk.left_since disk.faults four_of c.args.self.now.log c.turn_in.new.log c.args.room
+    into pass_texts disk four_of c.args.self.now.log c.turn_in.new.log c.args.room
     c.args.self.now.seats.items c.turn_in.new.seats.items c.args.self.now.halted c.turn_in.ensures.served c.requires.asked.0 c.requires.room none
     c.turn_in.ensures.count c.turn_in.ensures.others (λ x y p q. (c.turn_in.ensures.leaves x y p q).others)
     (λ x y p q. (c.turn_in.ensures.leaves x y p q).stays)

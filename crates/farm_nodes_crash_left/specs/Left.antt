@@ -20,7 +20,7 @@ IsWaitingWith seats (Some h) = MayPend IsConstants IsExpressions IsAllocation Is
 module _ {D : Type 0} (disk : disks.Ghosts D) (pair : pairs.Ghosts D) (q : Sizes) (digest : List ℕ) (functions : ℕ) where
   -- Node i of a farm with quorums of these sizes, over a text with this digest, of so many functions: it may be asked, and its disk is honest.
   pub record IsNode (i : ℕ) (log : Log D) (seats : NodeSeats) (halted : Option Halted) : Type 0 where
-    pub sound : IsSoundNode disk.is_honest disk.seen disk.may_leave log seats halted
+    pub sound : IsSoundNode disk log seats halted
     pub waiting : IsWaitingWith seats halted
     pub header : log.header ≡ header_of q digest i
     pub functions_are : length seats ≡ functions

@@ -40,7 +40,7 @@ use Rattle.farm_nodes_restart_seat.proofs.Places.{some_same, there_is}
 use Rattle.farm_nodes_open_stored.specs.Stored.{HasNoParts}
 use Rattle.farm_nodes_open_stored.specs.Written.{all_written, written}
 use Rattle.farm_nodes_open_stored.specs.Read.{HasNoOffer}
-use Rattle.farm_nodes_crash.specs.Left.{IsWaitingWith, NodeSeats}
+use Rattle.farm_nodes_crash_left.specs.Left.{IsWaitingWith, NodeSeats}
 
 abbrev FarmFour : Type 0
 FarmFour = Four ConstantsOffer ExpressionsOffer AllocationOffer OrderOffer
@@ -124,14 +124,17 @@ pending_has room Expressions s r h = (h.2, h.3, (h.1, h.4))
 pending_has room Allocation s r h = (h.2, h.3, (h.1, h.4))
 pending_has room Order s r h = (h.2, h.3, (h.1, h.4))
 
+pub has_at : (which : Which) (rs : List Record) → AreOf rs → (at room : ℕ) (text : List ℕ) → slice_get (all_written which rs) at ≡ Some (room, text) → HasText which text
+has_at which rs are at room text stands =
+    let there = found which rs at (room, text) stands in
+    let is = is_written which there.entry room text there.is in
+    subst (λ (w : Which). HasText w text) is.of (are there.at there.entry room text there.stands is.is)
+
 module _ {P A B C I O : Type 0} (from : language.Ghosts A I) (to : language.Ghosts B O) (by : pass.Ghosts P A B C I O) (which : Which) (rs : List Record)
     (are : AreOf rs) (texts : (text : List ℕ) → HasText which text → (x : Parts I O C) × IsOfferText from to by text x) where
   none_without : HasNoParts from to by which rs → ⊥
   none_without h =
-      let there = found which rs h.at (h.room, h.text) h.stands in
-      let is = is_written which there.entry h.room h.text there.is in
-      let has : HasText which h.text = subst (λ (w : Which). HasText w h.text) is.of (are there.at there.entry h.room h.text there.stands is.is) in
-      let x = texts h.text has in
+      let x = texts h.text (has_at which rs are h.at h.room h.text h.stands) in
       h.none x.0 x.1.fits x.1.text
 
 pub no_offer_missing : (rs : List Record) → AreOf rs → HasNoOffer rs → ⊥
