@@ -9,6 +9,7 @@ use Rattle.farm_nodes_meet_seats.specs.Offers.{ConstantsOffer, ExpressionsOffer,
 use Rattle.farm_nodes_meet_seats.specs.NumberedSeat.{NumberedSeat}
 use Rattle.farm_nodes_meet_seats.specs.Functions.{BothLink, HoldSameOffers}
 use Rattle.farm_nodes_meet_seats.specs.Held.{held_of}
+use Rattle.farm_nodes_meet_seats.proofs.Places.{all_link, same_code}
 use Rattle.farm_nodes_link.specs.Alike.{HaveCounted, HaveCountedAll, KeepsLearned, LinkOne}
 use Rattle.farm_nodes_link.specs.Learned.{FourOffers, all_four, learned_four, learned_by, IsUndecided}
 use Rattle.farm_nodes_link.specs.Offered.{linked_offers}
@@ -63,12 +64,12 @@ module _ {H : Type 0} {h : naming.Ghosts H} (xs ys : List (NumberedSeat H h)) (c
   link_at : (k : ℕ) (a b : NumberedSeat H h) → slice_get xs k ≡ Some a → slice_get ys k ≡ Some b → BothLink (held_of a) (held_of b)
   link_at k a b ea eb =
       let within : k < length xs = slice_get_within xs k a ea in
-      let long : length xs ≡ length counted.first = (counted.met.met counted.alike).first in
-      counted.met.all counted.alike refl k (omega (arith, within, long)) a b ea eb
+      all_link held_of counted.first counted.second xs ys (length counted.first) counted.met counted.alike refl k (omega (arith, within, (counted.met.met counted.alike).first)) a b ea eb
 
   same_at : (k : ℕ) (a b : NumberedSeat H h) → slice_get xs k ≡ Some a → slice_get ys k ≡ Some b → learned_four a ≡ learned_four b
   same_at k a b ea eb =
-      let hold : HoldSameOffers (held_of a) (held_of b) = counted.met.same counted.alike k (λ a' b' ea' eb'. link_at k a' b' ea' eb') a b ea eb in
+      let hold : HoldSameOffers (held_of a) (held_of b) =
+      same_code held_of counted.first counted.second xs ys (length counted.first) counted.met counted.alike k (λ a' b' ea' eb'. link_at k a' b' ea' eb') a b ea eb in
       λ i. all_four (hold.constants i) (hold.expressions i) (hold.allocation i) (hold.order i)
 
   same_learned : learned_by xs ≡ learned_by ys

@@ -3,6 +3,7 @@ use Rattle.std.proofs.Common.{◌≡◌, ℕ, ◌*◌, ◌<◌, ◌≤◌, List,
 use Rattle.std.proofs.lemmas.Bool.{cases_eq}
 use Rattle.std.proofs.lemmas.Option.{slice_get_within}
 use Rattle.paxos_core_world.specs.KeptPart.{KeptPart}
+use Rattle.durable_model.specs.declared.disk.Disk as disks
 use Rattle.acceptor_log_form.specs.Order.{AreInOrder}
 use Rattle.acceptor_log_form.specs.declared.header.Header.{Header}
 use Rattle.acceptor_log_form.specs.declared.record.Record.{Record}
@@ -187,9 +188,9 @@ module _ {S T1 T2 T3 T4 : Type 0} (texts : Texts T1 T2 T3 T4) (view : S → Held
   unproposed_kept xs xs' rs kept fresh m t e b is none =
       let old = at_kept xs xs' kept m t e in fresh m old.0 old.1 b (sym old.2.ballot ∙ is) (sym old.2.proposed ∙ none)
 
-  sound_going : {D : Type 0} (is_honest : D → Type 0) (seen : D → List ℕ) (may_leave : D → List ℕ → Type 0) (log : Log D) (xs xs' : List S)
-      → HaveKept xs xs' → IsSoundBy texts is_honest seen may_leave log (fours xs) None → IsSoundBy texts is_honest seen may_leave log (fours xs') None
-  sound_going is_honest seen may_leave log xs xs' kept sound = record {
+  sound_going : {D : Type 0} (disk : disks.Ghosts D) (log : Log D) (xs xs' : List S)
+      → HaveKept xs xs' → IsSoundBy texts disk log (fours xs) None → IsSoundBy texts disk log (fours xs') None
+  sound_going disk log xs xs' kept sound = record {
     journal = sound.journal;
     going = sound.going;
     own = seats_kept log.header xs xs' kept sound.own;
@@ -209,9 +210,9 @@ module _ {S T1 T2 T3 T4 : Type 0} (texts : Texts T1 T2 T3 T4) (view : S → Held
   }
 
   -- a node that is not stopped stays sound, whatever became of its seats, where they keep what they kept
-  pub sound_kept : {D : Type 0} (is_honest : D → Type 0) (seen : D → List ℕ) (may_leave : D → List ℕ → Type 0) (log : Log D) (xs xs' : List S)
+  pub sound_kept : {D : Type 0} (disk : disks.Ghosts D) (log : Log D) (xs xs' : List S)
       (halted : Option Halted) → halted ≡ None → HaveKept xs xs'
-      → IsSoundBy texts is_honest seen may_leave log (fours xs) halted → IsSoundBy texts is_honest seen may_leave log (fours xs') halted
-  sound_kept is_honest seen may_leave log xs xs' halted none kept sound =
-      subst (λ (h : Option Halted). IsSoundBy texts is_honest seen may_leave log (fours xs') h) (sym none)
-      (sound_going is_honest seen may_leave log xs xs' kept (subst (λ (h : Option Halted). IsSoundBy texts is_honest seen may_leave log (fours xs) h) none sound))
+      → IsSoundBy texts disk log (fours xs) halted → IsSoundBy texts disk log (fours xs') halted
+  sound_kept disk log xs xs' halted none kept sound =
+      subst (λ (h : Option Halted). IsSoundBy texts disk log (fours xs') h) (sym none)
+      (sound_going disk log xs xs' kept (subst (λ (h : Option Halted). IsSoundBy texts disk log (fours xs) h) none sound))

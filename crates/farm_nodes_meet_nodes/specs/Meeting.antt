@@ -37,8 +37,8 @@ module _ {D O H : Type 0} {h : naming.Ghosts H} where
   -- its journal stands for what its seats keep, if it did
   abbrev pub StaysSound : disks.Ghosts D → FarmNode D O H h → FarmNode D O H h → Type 0
   StaysSound disk old new =
-      IsSoundNode disk.is_honest disk.seen disk.may_leave old.log (fours_of old.seats.items) old.halted
-      → IsSoundNode disk.is_honest disk.seen disk.may_leave new.log (fours_of new.seats.items) new.halted
+      IsSoundNode disk old.log (fours_of old.seats.items) old.halted
+      → IsSoundNode disk new.log (fours_of new.seats.items) new.halted
 
   -- what it has not done may still be done, if it might
   abbrev pub StaysWaiting : FarmNode D O H h → FarmNode D O H h → Type 0

@@ -2,7 +2,7 @@ ghost use Rattle.std.specs.Prelude.{◌≡◌, ◌≤◌, length};
 ghost use Rattle.farm_nodes_meet_nodes.specs.Meeting.{AreLeft, AreStrangers, IsOneStopped, MeetInAll, StaysButSeats, StaysSound, StaysWaiting};
 
 use durable_model::Disk;
-use farm_nodes_meet_seats::meet_seats;
+use farm_nodes_meet_seats::meet_all_seats;
 use farm_nodes_turn_node::FarmNode;
 use rooms_hall::Naming;
 
@@ -35,5 +35,5 @@ pub fn meet_nodes<D: Disk, O, H: Naming>(
     if second.halted.is_some() {
         return 0;
     }
-    meet_seats(&mut first.seats, &mut second.seats)
+    meet_all_seats(&mut first.seats, &mut second.seats)
 }

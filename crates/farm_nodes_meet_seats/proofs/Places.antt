@@ -5,7 +5,7 @@ use Rattle.std.proofs.lemmas.Bool.{cases_eq}
 use Rattle.std.proofs.lemmas.List.{length-set}
 use Rattle.std.proofs.lemmas.Option.{slice_get-get_or, slice_get_within}
 use Rattle.farm_nodes_meet_seats.specs.Counts.{IsCount}
-use Rattle.farm_nodes_meet_seats.specs.Functions.{BothLink, MetIn, HasMet}
+use Rattle.farm_nodes_meet_seats.specs.Functions.{BothLink, HoldSameOffers, MetIn, HasMet}
 use Rattle.farm_nodes_meet_seats.specs.Held.{Held}
 use Rattle.farm_nodes_meet_seats.specs.Lists.{IsAt, IsOneAt, LinkAt, AreAll, AreAllStrange, HaveMetAll}
 use Rattle.farm_nodes_meet_seats.proofs.Counts.{count_next, most_next, each_counted, none_counted}
@@ -130,10 +130,6 @@ module _ {S T1 T2 T3 T4 : Type 0} (view : S → Held T1 T2 T3 T4) where
     unlike = λ no. (refl, refl, refl);
     met = λ e. absurd (other e);
     counted = λ e. absurd (other e);
-    all = λ e. absurd (other e);
-    same = λ e. absurd (other e);
-    none = λ never. refl;
-    strangers = λ apart. refl;
   }
 
   -- where the numbers are two the rooms are not the same
@@ -152,21 +148,42 @@ module _ {S T1 T2 T3 T4 : Type 0} (view : S → Held T1 T2 T3 T4) where
       let each : (k : ℕ) (a b a' b' : S) → slice_get xs k ≡ Some a → slice_get ys k ≡ Some b → slice_get xs' k ≡ Some a' → slice_get ys' k ≡ Some b' → Met a b a' b' =
       λ k a b a' b' ea eb ea' eb'. before.each k a b a' b' (let within : k < length xs = slice_get_within xs k a ea in omega (arith, within, end)) ea eb ea' eb' in
       let all_met : AreAll Met xs ys xs' ys' = record { first = before.first; second = before.second; each = each } in
-      let none : ((k : ℕ) → k < length xs → IsOneAt view xs ys k → ⊥) → count ≡ 0 =
-      λ never. none_counted (LinkAt view xs' ys') (length xs) count counted (λ k below link. never k below (λ a b ea eb.
-      let ea' : slice_get xs' k ≡ Some (get_or xs' k a) = there xs' xs k a (sym before.first) ea in
-      let eb' : slice_get ys' k ≡ Some (get_or ys' k b) = there ys' ys k b (sym before.second) eb in
-      same_rooms (view a) (view b) (view (get_or xs' k a)) (view (get_or ys' k b)) (each k a b (get_or xs' k a) (get_or ys' k b) ea eb ea' eb')
-      (link (get_or xs' k a) (get_or ys' k b) ea' eb'))) in
       record {
         unlike = λ no. absurd (no long);
         met = λ e. all_met;
         counted = λ e. counted;
-        all = λ e all. each_counted (LinkAt view xs' ys') (length xs) count counted all;
-        same = λ e k link a' b' ea' eb'.
-            let ea : slice_get xs k ≡ Some (get_or xs k a') = there xs xs' k a' before.first ea' in
-            let eb : slice_get ys k ≡ Some (get_or ys k b') = there ys ys' k b' before.second eb' in
-            same_held (view (get_or xs k a')) (view (get_or ys k b')) (view a') (view b') (each k (get_or xs k a') (get_or ys k b') a' b' ea eb ea' eb') (link a' b' ea' eb');
-        none = none;
-        strangers = λ apart. none (none_one xs ys xs' ys' long all_met apart);
       }
+
+  -- ---- what follows where two nodes have met
+  module _ (xs ys xs' ys' : List S) (count : ℕ) (have_met : HaveMetAll xs ys xs' ys' count view) where
+    -- where all functions are counted both link each
+    pub all_link : length xs ≡ length ys → count ≡ length xs → (k : ℕ) → k < length xs → LinkAt view xs' ys' k
+    all_link alike all = each_counted (LinkAt view xs' ys') (length xs) count (have_met.counted alike) all
+
+    -- of a function that both link they hold the same code
+    pub same_code : length xs ≡ length ys → (k : ℕ) → LinkAt view xs' ys' k → IsAt (λ a b. HoldSameOffers (view a) (view b)) xs' ys' k
+    same_code alike k link a' b' ea' eb' =
+        let all : AreAll Met xs ys xs' ys' = have_met.met alike in
+        let ea : slice_get xs k ≡ Some (get_or xs k a') = there xs xs' k a' all.first ea' in
+        let eb : slice_get ys k ≡ Some (get_or ys k b') = there ys ys' k b' all.second eb' in
+        same_held (view (get_or xs k a')) (view (get_or ys k b')) (view a') (view b') (all.each k (get_or xs k a') (get_or ys k b') a' b' ea eb ea' eb') (link a' b' ea' eb')
+
+    -- where no function has the same four rooms none is counted
+    pub uncounted : ((k : ℕ) → k < length xs → IsOneAt view xs ys k → ⊥) → count ≡ 0
+    uncounted never = elim (cases_eq (length xs) (length ys)) [
+      | inl alike ↦
+          let all : AreAll Met xs ys xs' ys' = have_met.met alike in
+          none_counted (LinkAt view xs' ys') (length xs) count (have_met.counted alike) (λ k below link. never k below (λ a b ea eb.
+          let ea' : slice_get xs' k ≡ Some (get_or xs' k a) = there xs' xs k a (sym all.first) ea in
+          let eb' : slice_get ys' k ≡ Some (get_or ys' k b) = there ys' ys k b (sym all.second) eb in
+          same_rooms (view a) (view b) (view (get_or xs' k a)) (view (get_or ys' k b)) (all.each k a b (get_or xs' k a) (get_or ys' k b) ea eb ea' eb')
+          (link (get_or xs' k a) (get_or ys' k b) ea' eb')))
+      | inr other ↦ (have_met.unlike other).2
+    ]
+
+    -- and so it is with nodes of two farms, whose numbers tell them apart
+    pub strangers_uncounted : AreAllStrange view xs ys → count ≡ 0
+    strangers_uncounted apart = elim (cases_eq (length xs) (length ys)) [
+      | inl alike ↦ uncounted (none_one xs ys xs' ys' alike (have_met.met alike) apart)
+      | inr other ↦ (have_met.unlike other).2
+    ]

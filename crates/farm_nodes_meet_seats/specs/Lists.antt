@@ -1,7 +1,7 @@
 -- Two nodes that have met: by functions, what a node holds of each.
 use Rattle.std.specs.Prelude.{◌≡◌, ◌≢◌, ℕ, ◌<◌, List, length, slice_get, Some}
 use Rattle.farm_nodes_meet_seats.specs.Counts.{IsCount}
-use Rattle.farm_nodes_meet_seats.specs.Functions.{AreOne, BothLink, HaveTwoNumbers, HoldSameOffers, MetIn}
+use Rattle.farm_nodes_meet_seats.specs.Functions.{AreOne, BothLink, HaveTwoNumbers, MetIn}
 use Rattle.farm_nodes_meet_seats.specs.Held.{Held}
 
 -- so it is of what both hold at this place
@@ -32,14 +32,9 @@ module _ {S T1 T2 T3 T4 : Type 0} (view : S → Held T1 T2 T3 T4) where
   abbrev pub IsOneAt : List S → List S → ℕ → Type 0
   IsOneAt xs ys k = IsAt (λ a b. AreOne (view a) (view b)) xs ys k
 
--- Nodes that hold other numbers of functions do not meet. Others do in every room, and exactly the functions are counted
--- that both link; of these they hold the same code. Where all are counted, that is every function; where no function has
--- the same four rooms none is, and so with nodes of two farms, whose numbers tell them apart.
+-- Nodes that hold other numbers of functions do not meet, and nothing is counted. Others do in every room, and exactly the
+-- functions are counted that both link then.
 pub record HaveMetAll {S T1 T2 T3 T4 : Type 0} (xs ys xs' ys' : List S) (count : ℕ) (view : S → Held T1 T2 T3 T4) : Type 0 where
   pub unlike : length xs ≢ length ys → (xs' ≡ xs) × (ys' ≡ ys) × (count ≡ 0)
   pub met : length xs ≡ length ys → AreAll (λ a b a' b'. MetIn (view a) (view b) (view a') (view b')) xs ys xs' ys'
   pub counted : length xs ≡ length ys → IsCount (LinkAt view xs' ys') (length xs) count
-  pub all : length xs ≡ length ys → count ≡ length xs → (k : ℕ) → k < length xs → LinkAt view xs' ys' k
-  pub same : length xs ≡ length ys → (k : ℕ) → LinkAt view xs' ys' k → IsAt (λ a b. HoldSameOffers (view a) (view b)) xs' ys' k
-  pub none : ((k : ℕ) → k < length xs → IsOneAt view xs ys k → ⊥) → count ≡ 0
-  pub strangers : AreAllStrange view xs ys → count ≡ 0

@@ -10,5 +10,5 @@ mod strangers;
 pub use farm_nodes_turn_passes::{NumberedSeat, Seat};
 pub use functions::meet_in_function;
 pub use learned::{has_learned_offer, learned_offer};
-pub use meeting::meet_seats;
+pub use meeting::meet_all_seats;
 pub use strangers::are_strangers;

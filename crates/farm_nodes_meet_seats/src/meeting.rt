@@ -8,7 +8,10 @@ use rooms_hall::Naming;
 
 /// Two nodes meet, in all rooms of all functions. Answers how many functions both link, with all four offers seen. Nodes
 /// with other numbers of functions are of two farms: they do not meet, and 0 is answered.
-pub fn meet_seats<H: Naming>(first: &mut [NumberedSeat<H>], second: &mut [NumberedSeat<H>]) -> u16
+pub fn meet_all_seats<H: Naming>(
+    first: &mut [NumberedSeat<H>],
+    second: &mut [NumberedSeat<H>],
+) -> u16
     requires { length first.old ≤ 65535 }
     ensures { HaveMetAll first.old second.old first.new second.new result held_of }
 {

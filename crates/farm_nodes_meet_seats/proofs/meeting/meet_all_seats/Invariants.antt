@@ -1,6 +1,6 @@
 use Rattle.farm_nodes_meet_seats.specs.Held.{held_of}
 use Rattle.farm_nodes_meet_seats.proofs.Places.{MetBefore, Met, Links}
-use Rattle.farm_nodes_meet_seats.proofs.meeting.meet_seats.Given as goal
+use Rattle.farm_nodes_meet_seats.proofs.meeting.meet_all_seats.Given as goal
 
 -- the first functions' seats have met
 abbrev pub invariant-loop-function : goal.invariant-loop-function

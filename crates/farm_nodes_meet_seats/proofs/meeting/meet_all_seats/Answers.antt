@@ -1,8 +1,8 @@
--- Why `meet_seats` meets its contract, and its loop over `function` keeps the invariant.
+-- Why `meet_all_seats` meets its contract, and its loop over `function` keeps the invariant.
 use Rattle.std.proofs.Common.{◌≡◌, length, arith}
 use Rattle.farm_nodes_meet_seats.specs.Held.{held_of}
 use Rattle.farm_nodes_meet_seats.proofs.Places.{Met, Links, met_none, met_next, met_not, met_all}
-use Rattle.farm_nodes_meet_seats.proofs.meeting.meet_seats.Goals as goal
+use Rattle.farm_nodes_meet_seats.proofs.meeting.meet_all_seats.Goals as goal
 
 pub returns-then-first-second : goal.returns-then-first-second
 returns-then-first-second g c =
