@@ -32,6 +32,7 @@ impl Oracles for Optimisers {
     fn propose_constants(
         &mut self,
         alloc: Global,
+        _number: u16,
         input: &rtl_language::Function,
         draws: &mut Pcg32,
     ) -> Result<Option<(rtl_language::Function, farm_nodes_open_nodes::FactLists)>, NoMemory> {
@@ -44,6 +45,7 @@ impl Oracles for Optimisers {
     fn propose_expressions(
         &mut self,
         alloc: Global,
+        _number: u16,
         input: &rtl_language::Function,
         draws: &mut Pcg32,
     ) -> Result<Option<(rtl_language::Function, oracle_cse::EquationLists)>, NoMemory> {
@@ -56,6 +58,7 @@ impl Oracles for Optimisers {
     fn propose_allocation(
         &mut self,
         alloc: Global,
+        _number: u16,
         input: &rtl_language::Function,
         draws: &mut Pcg32,
     ) -> Result<Option<(ltl::Function, farm_nodes_open_nodes::EquationLists)>, NoMemory> {
@@ -68,6 +71,7 @@ impl Oracles for Optimisers {
     fn propose_order(
         &mut self,
         alloc: Global,
+        _number: u16,
         input: &ltl::Function,
         draws: &mut Pcg32,
     ) -> Result<Option<(linear_language::Function, Order)>, NoMemory> {

@@ -29,7 +29,8 @@ use std::alloc::Global;
 use std::sync::Arc;
 
 /// Looks at the room of one pass of the function, and tells what the node is about to do there. The input of the first pass is the
-/// function, that of each other one the output that the node has learned in the pass before it, in this sweep too.
+/// function, that of each other one the output that the node has learned in the pass before it, in this sweep too. The optimiser is asked with the
+/// function's number.
 pub fn stage_in<O: Oracles, H: Naming>(
     alloc: Global,
     seats: &mut NumberedSeat<H>,
@@ -50,6 +51,7 @@ pub fn stage_in<O: Oracles, H: Naming>(
     ensures settled { WhereNone result (IsSettled is_its_turn pass (four_of seats.new)) }
     ensures refused { IfErr result (IsChoiceFault (IsTooLargeFor function.now pass (four_of seats.new))) }
 {
+    let number = room / 4;
     match pass {
         Which::Constants => first(stage_first(
             alloc,
@@ -57,7 +59,7 @@ pub fn stage_in<O: Oracles, H: Naming>(
             room,
             function,
             is_its_turn,
-            &mut ConstantsOf(oracles),
+            &mut ConstantsOf { oracles, number },
             draws,
         )),
         Which::Expressions => second(stage_behind(
@@ -66,7 +68,7 @@ pub fn stage_in<O: Oracles, H: Naming>(
             &mut seats.seat.second,
             room,
             is_its_turn,
-            &mut ExpressionsOf(oracles),
+            &mut ExpressionsOf { oracles, number },
             draws,
         )),
         Which::Allocation => third(stage_behind(
@@ -75,7 +77,7 @@ pub fn stage_in<O: Oracles, H: Naming>(
             &mut seats.seat.third,
             room,
             is_its_turn,
-            &mut AllocationOf(oracles),
+            &mut AllocationOf { oracles, number },
             draws,
         )),
         Which::Order => fourth(stage_behind(
@@ -84,7 +86,7 @@ pub fn stage_in<O: Oracles, H: Naming>(
             &mut seats.seat.fourth,
             room,
             is_its_turn,
-            &mut OrderOf(oracles),
+            &mut OrderOf { oracles, number },
             draws,
         )),
     }

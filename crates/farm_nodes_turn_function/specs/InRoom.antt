@@ -39,8 +39,7 @@ module _ {H : Type 0} {h : naming.Ghosts H} where
     abbrev pub LogsTurnIn : Which → Log D → Log D → ℕ → NumberedSeat H h → NumberedSeat H h → Result Progress Halt → Type 0
     LogsTurnIn pass old new room s t result =
         disk.is_honest old.disk → old.going ≡ true
-        → Played (IsOwnTextIn pass_texts pass (four_of t)) disk.is_honest disk.seen disk.may_leave disk.moment disk.left_since
-        old new room (words_of (four_of s) pass) (words_of (four_of t) pass) result
+        → Played (IsOwnTextIn pass_texts pass (four_of t)) disk old new room (words_of (four_of s) pass) (words_of (four_of t) pass) result
 
     -- where the journal went on, a node that halts in the room of this pass has a cause for it
     abbrev pub HaltsInPass : FunctionData → Which → Log D → Log D → ℕ → NumberedSeat H h → NumberedSeat H h → Result Progress Halt → Type 0
@@ -51,10 +50,10 @@ module _ {H : Type 0} {h : naming.Ghosts H} where
     abbrev pub LogsTurnAmong : Log D → Log D → ℕ → List (NumberedSeat H h) → List (NumberedSeat H h) → Result Progress Halt → Type 0
     LogsTurnAmong old new room s t result =
         disk.is_honest old.disk → old.going ≡ true
-        → ForRoom room (PlayedIn pass_texts disk.is_honest disk.seen disk.may_leave disk.moment disk.left_since old new room result) s t
+        → ForRoom room (PlayedIn pass_texts disk old new room result) s t
 
     abbrev pub HaltsAmong : FunctionData → Log D → Log D → ℕ → List (NumberedSeat H h) → List (NumberedSeat H h) → Result Progress Halt → Type 0
     HaltsAmong function old new room s t result =
         old.going ≡ true
         → IfErr result (λ halt.
-        ForRoom room (HaltsIn disk.is_honest disk.faults (IsTooLargeFor function (pass_of room)) old new room halt) s t)
+        ForRoom room (HaltsIn disk (IsTooLargeFor function (pass_of room)) old new room halt) s t)

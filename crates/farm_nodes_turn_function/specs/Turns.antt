@@ -1,6 +1,7 @@
 -- What a turn in a room leaves of the journal, and what stands at the place of a list that a turn is taken at.
 use Rattle.std.specs.Prelude.{◌≡◌, ℕ, List, Some, slice_get, Result}
 use Rattle.lang_base.specs.declared.program.Named.{Named}
+use Rattle.durable_model.specs.declared.disk.Disk as disks
 use Rattle.acceptor_log.specs.declared.log.Log.{Log}
 use Rattle.farm_nodes_turn_passes.specs.Halt.{Halt}
 use Rattle.farm_nodes_turn_passes.specs.Halted.{left_over, HasHaltCause}
@@ -20,12 +21,11 @@ OfFunction {F} functions number P = (x : Named F) → slice_get functions number
 
 module _ {D T1 T2 T3 T4 : Type 0} where
   -- what a turn in a room leaves of the journal, by its result
-  abbrev pub PlayedIn : Texts T1 T2 T3 T4 → (D → Type 0) → (D → List ℕ) → (D → List ℕ → Type 0) → (D → ℕ)
-      → (D → ℕ → List ℕ → Type 0) → Log D → Log D → ℕ → Result Progress Halt → Four T1 T2 T3 T4 → Four T1 T2 T3 T4 → Type 0
-  PlayedIn texts is_honest seen may_leave moment left_since old new room result s t =
-      Played (IsOwnTextIn texts (pass_of room) t) is_honest seen may_leave moment left_since old new room (words_of s (pass_of room)) (words_of t (pass_of room)) result
+  abbrev pub PlayedIn : Texts T1 T2 T3 T4 → disks.Ghosts D → Log D → Log D → ℕ → Result Progress Halt → Four T1 T2 T3 T4 → Four T1 T2 T3 T4 → Type 0
+  PlayedIn texts disk old new room result s t =
+      Played (IsOwnTextIn texts (pass_of room) t) disk old new room (words_of s (pass_of room)) (words_of t (pass_of room)) result
 
   -- why a turn in a room halts
-  abbrev pub HaltsIn : (D → Type 0) → (D → ℕ) → (Four T1 T2 T3 T4 → Type 0) → Log D → Log D → ℕ → Halt → Four T1 T2 T3 T4 → Four T1 T2 T3 T4 → Type 0
-  HaltsIn is_honest faults TooLarge old new room halt s t =
-      HasHaltCause is_honest faults (TooLarge s) old new (left_over room (words_of t (pass_of room)) halt.pending) halt.fault
+  abbrev pub HaltsIn : disks.Ghosts D → (Four T1 T2 T3 T4 → Type 0) → Log D → Log D → ℕ → Halt → Four T1 T2 T3 T4 → Four T1 T2 T3 T4 → Type 0
+  HaltsIn disk TooLarge old new room halt s t =
+      HasHaltCause disk (TooLarge s) old new (left_over room (words_of t (pass_of room)) halt.pending) halt.fault

@@ -27,7 +27,7 @@ use rtl_language::Function;
 use std::alloc::Global;
 
 /// One turn in the room of one pass of the function. The input of the first pass is the function, that of each other one the
-/// output that the node has learned in the pass before it.
+/// output that the node has learned in the pass before it. The optimiser is asked with the function's number.
 pub fn play_in<D: Disk, O: Oracles, H: Naming>(
     alloc: Global,
     log: &mut Log<D>,
@@ -38,8 +38,8 @@ pub fn play_in<D: Disk, O: Oracles, H: Naming>(
     oracles: &mut O,
     draws: &mut Pcg32,
 ) -> Result<Progress, Halt>
-    requires { IsSound D.is_honest D.seen D.may_leave log.old }
-    ensures served { IsServed D.is_honest D.seen D.may_leave D.faults log.old log.new }
+    requires { IsSound D.Disk log.old }
+    ensures served { IsServed D.Disk log.old log.new }
     ensures going { IfOk result (λ progress. log.new.going ≡ log.old.going) }
     ensures stays { StaysIn pass (four_of numbered.old) (four_of numbered.new) }
 
@@ -60,6 +60,7 @@ pub fn play_in<D: Disk, O: Oracles, H: Naming>(
     ensures journal { LogsTurnIn D.Disk pass log.old log.new room numbered.old numbered.new result }
     ensures cause { HaltsInPass D.Disk function.now pass log.old log.new room numbered.old numbered.new result }
 {
+    let number = room / 4;
     match pass {
         Which::Constants => play_first(
             alloc,
@@ -67,7 +68,7 @@ pub fn play_in<D: Disk, O: Oracles, H: Naming>(
             &mut numbered.seat.first,
             room,
             function,
-            &mut ConstantsOf(oracles),
+            &mut ConstantsOf { oracles, number },
             draws,
         ),
         Which::Expressions => play_behind(
@@ -76,7 +77,7 @@ pub fn play_in<D: Disk, O: Oracles, H: Naming>(
             &numbered.seat.first,
             &mut numbered.seat.second,
             room,
-            &mut ExpressionsOf(oracles),
+            &mut ExpressionsOf { oracles, number },
             draws,
         ),
         Which::Allocation => play_behind(
@@ -85,7 +86,7 @@ pub fn play_in<D: Disk, O: Oracles, H: Naming>(
             &numbered.seat.second,
             &mut numbered.seat.third,
             room,
-            &mut AllocationOf(oracles),
+            &mut AllocationOf { oracles, number },
             draws,
         ),
         Which::Order => play_behind(
@@ -94,7 +95,7 @@ pub fn play_in<D: Disk, O: Oracles, H: Naming>(
             &numbered.seat.third,
             &mut numbered.seat.fourth,
             room,
-            &mut OrderOf(oracles),
+            &mut OrderOf { oracles, number },
             draws,
         ),
     }
@@ -110,8 +111,8 @@ fn play_first<D: Disk, P: Pass, O: Oracle<P = P>>(
     oracle: &mut O,
     draws: &mut Pcg32,
 ) -> Result<Progress, Halt>
-    requires { IsSound D.is_honest D.seen D.may_leave log.old }
-    ensures served { IsServed D.is_honest D.seen D.may_leave D.faults log.old log.new }
+    requires { IsSound D.Disk log.old }
+    ensures served { IsServed D.Disk log.old log.new }
     ensures going { IfOk result (λ progress. log.new.going ≡ log.old.going) }
     ensures stays { StaysInTurn seat.old seat.new }
     ensures made { IsMadeOn (Some function.now) seat.old seat.new }
@@ -140,8 +141,8 @@ fn play_behind<D: Disk, B: Pass, P: Pass<In = B::Out>, O: Oracle<P = P>>(
     oracle: &mut O,
     draws: &mut Pcg32,
 ) -> Result<Progress, Halt>
-    requires { IsSound D.is_honest D.seen D.may_leave log.old }
-    ensures served { IsServed D.is_honest D.seen D.may_leave D.faults log.old log.new }
+    requires { IsSound D.Disk log.old }
+    ensures served { IsServed D.Disk log.old log.new }
     ensures going { IfOk result (λ progress. log.new.going ≡ log.old.going) }
     ensures stays { StaysInTurn seat.old seat.new }
     ensures made { IsMadeFrom before.now seat.old seat.new }

@@ -26,9 +26,9 @@ pub fn turn_in<D: Disk, O: Oracles, H: Naming>(
     oracles: &mut O,
     draws: &mut Pcg32,
 ) -> Result<Progress, Halt>
-    requires sound { IsSound D.is_honest D.seen D.may_leave log.old }
+    requires sound { IsSound D.Disk log.old }
     requires room { function_of room < length seats.old.items }
-    ensures served { IsServed D.is_honest D.seen D.may_leave D.faults log.old log.new }
+    ensures served { IsServed D.Disk log.old log.new }
     ensures going { IfOk result (λ progress. log.new.going ≡ log.old.going) }
 
     // The seats of other functions are as they were.

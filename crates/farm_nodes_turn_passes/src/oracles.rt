@@ -4,13 +4,15 @@ use rand_pcg::Pcg32;
 use rooms_numbered::{Alloc, ConstProp, EquationLists as PlaceLists, FactLists, Linearize, Order};
 use std::alloc::Global;
 
-/// A node's optimisers, one call for each pass. Nothing is promised of what they propose: an output and a certificate for the
-/// input, or none. `words` makes their choices. Where memory is wanting, words may have been drawn and they may have changed.
+/// A node's optimisers, one call for each pass. Each is asked with the number of the function, whose input this is. Nothing is promised of
+/// what they propose: an output and a certificate for the input, or none. `draws` makes their choices. Where memory is wanting, words may
+/// have been drawn and they may have changed.
 pub trait Oracles {
     /// For the first pass, which carries constants.
     fn propose_constants(
         &mut self,
         alloc: Global,
+        number: u16,
         input: &rtl_language::Function,
         draws: &mut Pcg32,
     ) -> Result<Option<(rtl_language::Function, FactLists)>, NoMemory>;
@@ -19,6 +21,7 @@ pub trait Oracles {
     fn propose_expressions(
         &mut self,
         alloc: Global,
+        number: u16,
         input: &rtl_language::Function,
         draws: &mut Pcg32,
     ) -> Result<Option<(rtl_language::Function, EquationLists)>, NoMemory>;
@@ -27,6 +30,7 @@ pub trait Oracles {
     fn propose_allocation(
         &mut self,
         alloc: Global,
+        number: u16,
         input: &rtl_language::Function,
         draws: &mut Pcg32,
     ) -> Result<Option<(ltl::Function, PlaceLists)>, NoMemory>;
@@ -35,14 +39,18 @@ pub trait Oracles {
     fn propose_order(
         &mut self,
         alloc: Global,
+        number: u16,
         input: &ltl::Function,
         draws: &mut Pcg32,
     ) -> Result<Option<(rooms_numbered::Function, Order)>, NoMemory>;
 }
 
-/// A node's optimiser of the first pass.
+/// A node's optimiser of the first pass, for the function of this number.
 #[derive(Drop)]
-pub struct ConstantsOf<'a, O>(pub &'a mut O);
+pub struct ConstantsOf<'a, O> {
+    pub oracles: &'a mut O,
+    pub number: u16,
+}
 
 impl<O: Oracles> Oracle for ConstantsOf<'_, O> {
     type P = ConstProp;
@@ -53,13 +61,17 @@ impl<O: Oracles> Oracle for ConstantsOf<'_, O> {
         input: &rtl_language::Function,
         draws: &mut Pcg32,
     ) -> Result<Option<(rtl_language::Function, FactLists)>, NoMemory> {
-        self.0.propose_constants(alloc, input, draws)
+        self.oracles
+            .propose_constants(alloc, self.number, input, draws)
     }
 }
 
-/// A node's optimiser of the second pass.
+/// A node's optimiser of the second pass, for the function of this number.
 #[derive(Drop)]
-pub struct ExpressionsOf<'a, O>(pub &'a mut O);
+pub struct ExpressionsOf<'a, O> {
+    pub oracles: &'a mut O,
+    pub number: u16,
+}
 
 impl<O: Oracles> Oracle for ExpressionsOf<'_, O> {
     type P = Cse;
@@ -70,13 +82,17 @@ impl<O: Oracles> Oracle for ExpressionsOf<'_, O> {
         input: &rtl_language::Function,
         draws: &mut Pcg32,
     ) -> Result<Option<(rtl_language::Function, EquationLists)>, NoMemory> {
-        self.0.propose_expressions(alloc, input, draws)
+        self.oracles
+            .propose_expressions(alloc, self.number, input, draws)
     }
 }
 
-/// A node's optimiser of the third pass.
+/// A node's optimiser of the third pass, for the function of this number.
 #[derive(Drop)]
-pub struct AllocationOf<'a, O>(pub &'a mut O);
+pub struct AllocationOf<'a, O> {
+    pub oracles: &'a mut O,
+    pub number: u16,
+}
 
 impl<O: Oracles> Oracle for AllocationOf<'_, O> {
     type P = Alloc;
@@ -87,13 +103,17 @@ impl<O: Oracles> Oracle for AllocationOf<'_, O> {
         input: &rtl_language::Function,
         draws: &mut Pcg32,
     ) -> Result<Option<(ltl::Function, PlaceLists)>, NoMemory> {
-        self.0.propose_allocation(alloc, input, draws)
+        self.oracles
+            .propose_allocation(alloc, self.number, input, draws)
     }
 }
 
-/// A node's optimiser of the fourth pass.
+/// A node's optimiser of the fourth pass, for the function of this number.
 #[derive(Drop)]
-pub struct OrderOf<'a, O>(pub &'a mut O);
+pub struct OrderOf<'a, O> {
+    pub oracles: &'a mut O,
+    pub number: u16,
+}
 
 impl<O: Oracles> Oracle for OrderOf<'_, O> {
     type P = Linearize;
@@ -104,6 +124,6 @@ impl<O: Oracles> Oracle for OrderOf<'_, O> {
         input: &ltl::Function,
         draws: &mut Pcg32,
     ) -> Result<Option<(rooms_numbered::Function, Order)>, NoMemory> {
-        self.0.propose_order(alloc, input, draws)
+        self.oracles.propose_order(alloc, self.number, input, draws)
     }
 }

@@ -45,6 +45,7 @@ impl Oracles for Fixed {
     fn propose_constants(
         &mut self,
         _alloc: Global,
+        _number: u16,
         _input: &rtl_language::Function,
         _draws: &mut Pcg32,
     ) -> Result<Option<(rtl_language::Function, FactLists)>, NoMemory> {
@@ -54,6 +55,7 @@ impl Oracles for Fixed {
     fn propose_expressions(
         &mut self,
         _alloc: Global,
+        _number: u16,
         _input: &rtl_language::Function,
         _draws: &mut Pcg32,
     ) -> Result<Option<(rtl_language::Function, EquationLists)>, NoMemory> {
@@ -63,6 +65,7 @@ impl Oracles for Fixed {
     fn propose_allocation(
         &mut self,
         _alloc: Global,
+        _number: u16,
         _input: &rtl_language::Function,
         _draws: &mut Pcg32,
     ) -> Result<Option<(ltl::Function, PlaceLists)>, NoMemory> {
@@ -72,6 +75,7 @@ impl Oracles for Fixed {
     fn propose_order(
         &mut self,
         alloc: Global,
+        _number: u16,
         input: &ltl::Function,
         _draws: &mut Pcg32,
     ) -> Result<Option<(linear_language::Function, Order)>, NoMemory> {
@@ -143,9 +147,7 @@ pub(crate) fn fixed_told<H: Naming + Send, R: Threads + Wait + Sync>(
     hall: &Hall<H>,
     text: &[u8],
 ) -> Option<String> {
-    let Some(disks) = disks_of(alloc, 3) else {
-        return None;
-    };
+    let disks = disks_of(alloc, 3)?;
     let Ok(oracles) = vec![in alloc; Fixed; 3] else {
         return None;
     };
@@ -153,9 +155,7 @@ pub(crate) fn fixed_told<H: Naming + Send, R: Threads + Wait + Sync>(
         return None;
     };
     let Farm { source, nodes } = farm;
-    let Some(nodes) = turned(threads, alloc, nodes) else {
-        return None;
-    };
+    let nodes = turned(threads, alloc, nodes)?;
     let Some(count) = all_offers(alloc, &nodes, source.digest) else {
         return owned(alloc, "another");
     };

@@ -57,10 +57,10 @@ returns-clause-journal g c honest going =
     let disk = g.D.Disk in
     let old = four_of c.in-Some.four.now in
     let new = four_of c.play_in.new.numbered in
-    place_set four_of (PlayedIn pass_texts disk.is_honest disk.seen disk.may_leave disk.moment disk.left_since c.args.log.now c.play_in.new.log c.args.room c.play_in.result)
+    place_set four_of (PlayedIn pass_texts disk c.args.log.now c.play_in.new.log c.args.room c.play_in.result)
     c.args.seats.now.items c.from.result (function_of c.args.room)
     c.in-Some.four.now c.play_in.new.numbered c.from.ensures c.in-Some.ensures.value
-    (subst (λ (p : Which). Played (IsOwnTextIn pass_texts p new) disk.is_honest disk.seen disk.may_leave disk.moment disk.left_since c.args.log.now c.play_in.new.log c.args.room (words_of old p) (words_of new p) c.play_in.result) c.of_room.ensures
+    (subst (λ (p : Which). Played (IsOwnTextIn pass_texts p new) disk c.args.log.now c.play_in.new.log c.args.room (words_of old p) (words_of new p) c.play_in.result) c.of_room.ensures
     (c.play_in.ensures.journal honest going))
 
 pub returns-clause-cause : goal.returns-clause-cause
@@ -69,15 +69,15 @@ returns-clause-cause g c going =
     let old = four_of c.in-Some.four.now in
     let new = four_of c.play_in.new.numbered in
     let cause = λ (p : Which) (halt : Halt).
-    HasHaltCause disk.is_honest disk.faults (IsTooLargeFor c.args.function.now p old)
+    HasHaltCause disk (IsTooLargeFor c.args.function.now p old)
     c.args.log.now c.play_in.new.log (left_over c.args.room (words_of new p) halt.pending) halt.fault in
     if_err c.play_in.result (cause c.of_room.result)
     (λ (halt : Halt). AtPlace four_of
-    (HaltsIn disk.is_honest disk.faults (IsTooLargeFor c.args.function.now (pass_of c.args.room)) c.args.log.now c.play_in.new.log c.args.room halt)
+    (HaltsIn disk (IsTooLargeFor c.args.function.now (pass_of c.args.room)) c.args.log.now c.play_in.new.log c.args.room halt)
     (function_of c.args.room) c.args.seats.now.items (set c.args.seats.now.items c.from.result c.play_in.new.numbered))
     (λ halt told.
     place_set four_of
-    (HaltsIn disk.is_honest disk.faults (IsTooLargeFor c.args.function.now (pass_of c.args.room)) c.args.log.now c.play_in.new.log c.args.room halt)
+    (HaltsIn disk (IsTooLargeFor c.args.function.now (pass_of c.args.room)) c.args.log.now c.play_in.new.log c.args.room halt)
     c.args.seats.now.items c.from.result (function_of c.args.room)
     c.in-Some.four.now c.play_in.new.numbered c.from.ensures c.in-Some.ensures.value
     (subst (λ (p : Which). cause p halt) c.of_room.ensures told))

@@ -9,7 +9,7 @@ use Rattle.farm_nodes.proofs.farm.Farm.over.Goals as goal
 pub returns-in-Ok-clause-fit : goal.returns-in-Ok-clause-fit
 returns-in-Ok-clause-fit g c =
     let disk = g.P.Disk in
-    all_both (λ n. IsSoundNode disk.is_honest disk.seen disk.may_leave n.log (fours_of n.seats.items) n.halted)
+    all_both (λ n. IsSoundNode disk n.log (fours_of n.seats.items) n.halted)
     (λ n. IsWaiting n.seats.items n.halted)
     c.in-Ok.nodes.items c.in-Ok.ensures.sound c.in-Ok.ensures.waiting
 
