@@ -1,5 +1,8 @@
 //! The offers that stood in files.
 
+ghost use Rattle.std.specs.Prelude.{◌≡◌, slice_get, IfSome};
+ghost use Rattle.cfarm_build_offers.specs.Proposed.{HasTaken, IsOfFunction};
+
 use crate::fault::GivenFault;
 use constprop_check::ConstProp;
 use cse_check::Cse;
@@ -11,16 +14,17 @@ use offers::PartsOf;
 /// An offer of a file. Its parts are there, where it can be used, until they are proposed.
 #[derive(Drop)]
 pub struct Given<P: Pass> {
+    /// The number of the function whose name the file has.
+    pub number: u16,
     pub path: String,
     pub parts: Option<PartsOf<P>>,
     pub fault: Option<GivenFault>,
 }
 
-/// The offers of a pass that a node is given, by function, and how often the node asked for one.
+/// The offers of a pass that a node is given: at most one for each function.
 #[derive(Drop)]
 pub struct PassOffers<P: Pass> {
     pub given: Vec<Given<P>>,
-    pub asked: usize,
 }
 
 /// The offers that a node is given.
@@ -30,41 +34,54 @@ pub struct NodeOffers {
     pub expressions: PassOffers<Cse>,
     pub allocation: PassOffers<Alloc>,
     pub order: PassOffers<Linearize>,
-    /// How many functions the text has.
-    pub functions: usize,
 }
 
-/// The output and the certificate of this offer, if it can be used, its input is this one, and it was not proposed before.
+/// The output and the certificate of this offer, if it can be used, was not proposed before, and its input is this one. One of another
+/// input is not used, and that is its fault from now on.
 fn taken<P: Pass>(
     given: &mut Given<P>,
     input: &<P::In as Language>::Fun,
-) -> Option<(<P::Out as Language>::Fun, P::Cert)> {
-    let is_it = match &given.parts {
-        Some(parts) => &parts.input == input,
-        None => false,
+) -> Option<(<P::Out as Language>::Fun, P::Cert)>
+    ensures number { given.new.number ≡ given.old.number }
+    ensures parts { IfSome result (HasTaken given.old.parts input.now) }
+{
+    let Some(parts) = given.parts.take() else {
+        return None;
     };
-    if !is_it {
+    if &parts.input != input {
+        given.fault = Some(GivenFault::Unchained);
         return None;
     }
-    match given.parts.take() {
-        Some(parts) => Some((parts.output, parts.certificate)),
-        None => None,
+    Some((parts.output, parts.certificate))
+}
+
+/// Where the offer for the function of this number stands.
+fn place_of<P: Pass>(given: &[Given<P>], number: u16) -> Option<usize>
+    ensures { IfSome result (λ place. IfSome (slice_get given.now place) (λ it. it.number ≡ number)) }
+{
+    for place in 0..given.len() {
+        if given[place].number == number {
+            return Some(place);
+        }
     }
+    None
 }
 
 impl<P: Pass> PassOffers<P> {
-    /// Those of the first offer that can be used for this input.
-    pub(crate) fn next_of(
+    /// Those of the offer for the function of this number, if it can be used for this input. An equal input of another function is no use.
+    pub(crate) fn next_for(
         &mut self,
+        number: u16,
         input: &<P::In as Language>::Fun,
-    ) -> Option<(<P::Out as Language>::Fun, P::Cert)> {
-        self.asked = self.asked.saturating_add(1);
-        for given in self.given.iter_mut() {
-            match taken::<P>(given, input) {
-                Some(proposed) => return Some(proposed),
-                None => {}
-            }
-        }
-        None
+    ) -> Option<(<P::Out as Language>::Fun, P::Cert)>
+        ensures { IfSome result (IsOfFunction number input.now self.old.given.items) }
+    {
+        let Some(place) = place_of(&self.given, number) else {
+            return None;
+        };
+        let Some(given) = self.given.get_mut(place) else {
+            return None;
+        };
+        taken::<P>(given, input)
     }
 }

@@ -22,64 +22,68 @@ impl<O: Oracles> Oracles for Outside<'_, O> {
     fn propose_constants(
         &mut self,
         alloc: Global,
+        number: u16,
         input: &rtl_language::Function,
         draws: &mut Pcg32,
     ) -> Result<Option<(rtl_language::Function, FactLists)>, NoMemory> {
         let outside = match &mut self.given {
-            Some(given) => given.constants.next_of(input),
+            Some(given) => given.constants.next_for(number, input),
             None => None,
         };
         match outside {
             Some(proposed) => Ok(Some(proposed)),
-            None => self.own.propose_constants(alloc, input, draws),
+            None => self.own.propose_constants(alloc, number, input, draws),
         }
     }
 
     fn propose_expressions(
         &mut self,
         alloc: Global,
+        number: u16,
         input: &rtl_language::Function,
         draws: &mut Pcg32,
     ) -> Result<Option<(rtl_language::Function, EquationLists)>, NoMemory> {
         let outside = match &mut self.given {
-            Some(given) => given.expressions.next_of(input),
+            Some(given) => given.expressions.next_for(number, input),
             None => None,
         };
         match outside {
             Some(proposed) => Ok(Some(proposed)),
-            None => self.own.propose_expressions(alloc, input, draws),
+            None => self.own.propose_expressions(alloc, number, input, draws),
         }
     }
 
     fn propose_allocation(
         &mut self,
         alloc: Global,
+        number: u16,
         input: &rtl_language::Function,
         draws: &mut Pcg32,
     ) -> Result<Option<(ltl::Function, PlaceLists)>, NoMemory> {
         let outside = match &mut self.given {
-            Some(given) => given.allocation.next_of(input),
+            Some(given) => given.allocation.next_for(number, input),
             None => None,
         };
         match outside {
             Some(proposed) => Ok(Some(proposed)),
-            None => self.own.propose_allocation(alloc, input, draws),
+            None => self.own.propose_allocation(alloc, number, input, draws),
         }
     }
 
     fn propose_order(
         &mut self,
         alloc: Global,
+        number: u16,
         input: &ltl::Function,
         draws: &mut Pcg32,
     ) -> Result<Option<(linear_language::Function, Order)>, NoMemory> {
         let outside = match &mut self.given {
-            Some(given) => given.order.next_of(input),
+            Some(given) => given.order.next_for(number, input),
             None => None,
         };
         match outside {
             Some(proposed) => Ok(Some(proposed)),
-            None => self.own.propose_order(alloc, input, draws),
+            None => self.own.propose_order(alloc, number, input, draws),
         }
     }
 }

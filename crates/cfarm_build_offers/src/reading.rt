@@ -28,48 +28,73 @@ fn at(folder: &str, node: usize, pass: u8) -> Place<'_> {
     Place { folder, node, pass }
 }
 
-/// The offer of the file of this path, which cannot be used.
-fn faulty<P: Pass>(path: String, fault: GivenFault) -> Given<P> {
+/// A function of the text, with its number.
+#[derive(Clone, Copy)]
+struct Numbered<'a> {
+    number: u16,
+    function: &'a Named<Function>,
+}
+
+/// The file of an offer: its path, and the number of the function whose name it has.
+#[derive(Drop)]
+struct FileOf {
+    number: u16,
+    path: String,
+}
+
+/// The offer of the file, which cannot be used.
+fn faulty<P: Pass>(file: FileOf, fault: GivenFault) -> Given<P> {
+    let FileOf { number, path } = file;
     Given {
+        number,
         path,
         parts: None,
         fault: Some(fault),
     }
 }
 
-/// The offer that the bytes of the file of this path spell.
-fn spelled_by<P: Pass>(alloc: Global, path: String, bytes: &[u8]) -> Result<Given<P>, NoMemory> {
+/// The offer that the bytes of the file spell.
+fn spelled_by<P: Pass>(alloc: Global, file: FileOf, bytes: &[u8]) -> Result<Given<P>, NoMemory> {
     match Offer::<P>::parts(alloc, bytes) {
-        Ok(parts) => Ok(Given {
-            path,
-            parts: Some(parts),
-            fault: None,
-        }),
+        Ok(parts) => {
+            let FileOf { number, path } = file;
+            Ok(Given {
+                number,
+                path,
+                parts: Some(parts),
+                fault: None,
+            })
+        }
         Err(fault) => match GivenFault::of(fault) {
-            Some(fault) => Ok(faulty(path, fault)),
+            Some(fault) => Ok(faulty(file, fault)),
             None => Err(NoMemory),
         },
     }
 }
 
-/// The offer for the function of this name, where there is a file of it.
+/// The offer for the function, where there is a file of its name.
 fn spelled<P: Pass, F: Files>(
     alloc: Global,
     files: &F,
     place: Place<'_>,
-    name: &str,
+    of: Numbered<'_>,
 ) -> Result<Option<Given<P>>, NoMemory> {
+    let name = name_of(of.function);
     let Ok(path) = offer_path(alloc, place.folder, place.node, name, place.pass) else {
         return Err(NoMemory);
     };
-    match files.read_if_there(&path) {
-        Ok(Some(bytes)) => match spelled_by::<P>(alloc, path, &bytes) {
+    let file = FileOf {
+        number: of.number,
+        path,
+    };
+    match files.read_if_there(&file.path) {
+        Ok(Some(bytes)) => match spelled_by::<P>(alloc, file, &bytes) {
             Ok(given) => Ok(Some(given)),
             Err(fault) => Err(fault),
         },
         Ok(None) => Ok(None),
         Err(FileFault::NoMemory) => Err(NoMemory),
-        Err(FileFault::Refused) => Ok(Some(faulty(path, GivenFault::Device))),
+        Err(FileFault::Refused(_)) => Ok(Some(faulty(file, GivenFault::Device))),
     }
 }
 
@@ -82,8 +107,8 @@ fn chained(given: Given<ConstProp>, function: &Function) -> Given<ConstProp> {
     if is_chained {
         return given;
     }
-    let Given { path, .. } = given;
-    faulty(path, GivenFault::Unchained)
+    let Given { number, path, .. } = given;
+    faulty(FileOf { number, path }, GivenFault::Unchained)
 }
 
 /// An offer, which can be used where its pass accepts it.
@@ -95,8 +120,8 @@ fn accepted<P: Pass>(alloc: Global, given: Given<P>) -> Result<Given<P>, NoMemor
     match is_accepted {
         Ok(true) => Ok(given),
         Ok(false) => {
-            let Given { path, .. } = given;
-            Ok(faulty(path, GivenFault::Refused))
+            let Given { number, path, .. } = given;
+            Ok(faulty(FileOf { number, path }, GivenFault::Refused))
         }
         Err(fault) => Err(fault),
     }
@@ -130,8 +155,10 @@ fn first_given<F: Files>(
     functions: &[Named<Function>],
 ) -> Result<PassOffers<ConstProp>, NoMemory> {
     let mut all = Vec::new(alloc);
+    let mut number = 0u16;
     for function in functions {
-        let pushed = match spelled::<ConstProp, F>(alloc, files, place, name_of(function)) {
+        let of = Numbered { number, function };
+        let pushed = match spelled::<ConstProp, F>(alloc, files, place, of) {
             Ok(Some(given)) => push_given(alloc, &mut all, chained(given, &function.function)),
             Ok(None) => Ok(()),
             Err(fault) => Err(fault),
@@ -140,11 +167,9 @@ fn first_given<F: Files>(
             Ok(()) => {}
             Err(fault) => return Err(fault),
         }
+        number = number.saturating_add(1);
     }
-    Ok(PassOffers {
-        given: all,
-        asked: 0,
-    })
+    Ok(PassOffers { given: all })
 }
 
 /// The offers of a later pass, whatever they go on from.
@@ -155,8 +180,9 @@ fn pass_given<P: Pass, F: Files>(
     functions: &[Named<Function>],
 ) -> Result<PassOffers<P>, NoMemory> {
     let mut all = Vec::new(alloc);
+    let mut number = 0u16;
     for function in functions {
-        let pushed = match spelled::<P, F>(alloc, files, place, name_of(function)) {
+        let pushed = match spelled::<P, F>(alloc, files, place, Numbered { number, function }) {
             Ok(Some(given)) => push_given(alloc, &mut all, given),
             Ok(None) => Ok(()),
             Err(fault) => Err(fault),
@@ -165,11 +191,9 @@ fn pass_given<P: Pass, F: Files>(
             Ok(()) => {}
             Err(fault) => return Err(fault),
         }
+        number = number.saturating_add(1);
     }
-    Ok(PassOffers {
-        given: all,
-        asked: 0,
-    })
+    Ok(PassOffers { given: all })
 }
 
 /// What a node is given.
@@ -201,7 +225,6 @@ fn node_given<F: Files>(
         expressions,
         allocation,
         order,
-        functions: functions.len(),
     })
 }
 
