@@ -1,0 +1,19 @@
+-- What was written and is told is the command's answer.
+use Rattle.std.proofs.Common.{inl, inr}
+use Rattle.cfarm_sim.specs.Lines.{schedule_line, status_of}
+use Rattle.cfarm_sim.specs.Plays.{IsShown, IsStopped}
+use Rattle.cfarm_library_answers.specs.Outcomes.{Lined}
+use Rattle.cfarm_library_answers.proofs.Joined.{done_is, gives, gives_or, told_is}
+use Rattle.cfarm_library_answers.proofs.running.simulate.Goals as goal
+
+pub returns-in-Ok : goal.returns-in-Ok
+returns-in-Ok c =
+    let schedule = c.args.schedule.now in
+    gives (Lined schedule) _ c.done.result 0 _ (inl (done_is (IsShown schedule) _ _ c.new-out.ensures.items c.in-Ok.ensures.shown)) c.done.ensures
+
+pub returns-in-Err : goal.returns-in-Err
+returns-in-Err c =
+    let schedule = c.args.schedule.now in
+    let fault = c.in-Err.fault in
+    let told = told_is (IsStopped schedule fault) _ _ c.new-out.ensures.items c.in-Err.ensures.stopped (status_of fault) (schedule_line fault) in
+    gives_or (Lined schedule) _ c.told.result (status_of fault) _ _ c.status.ensures (inr (fault, told)) c.told.ensures
