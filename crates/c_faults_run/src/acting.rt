@@ -24,7 +24,7 @@ use std::slice;
 #[tactic(auto, using(c_faults_step::proofs::Ahead::or_assoc))]
 pub fn act_first<'a>(
     tracer: &mut Tracer<'a>,
-    bound: u32,
+    bound: u64,
     actions: &'a [Action],
     places: &'a [usize],
 ) -> Result<Step, NoMemory>
@@ -45,7 +45,7 @@ pub fn act_first<'a>(
 #[tactic(auto, using(c_program::proofs::Sequences::view_sequence, c_faults_step::proofs::Ahead::ahead_fails))]
 fn act<'a>(
     tracer: &mut Tracer<'a>,
-    bound: u32,
+    bound: u64,
     action: &'a Action,
     places: &'a [usize],
 ) -> Result<Step, NoMemory>
@@ -100,7 +100,7 @@ fn act<'a>(
 #[tactic(auto, using(c_faults_step::proofs::Ending::arrival_printed))]
 fn give<'a>(
     tracer: &mut Tracer<'a>,
-    bound: u32,
+    bound: u64,
     target: Target,
     value: &'a Value,
     places: &'a [usize],
@@ -172,7 +172,7 @@ fn update_word(
 }
 
 /// One of two actions is done, by a condition.
-fn choose<'a>(tracer: &mut Tracer<'a>, bound: u32, choice: Choice<'a>) -> Result<Step, NoMemory>
+fn choose<'a>(tracer: &mut Tracer<'a>, bound: u64, choice: Choice<'a>) -> Result<Step, NoMemory>
     ensures meaning { IfOk result (Chooses tracer.old tracer.new bound choice.entry) }
     ensures cost { IfOk result (λ step. step_cost step tracer.new < choice_cost tracer.old bound choice.entry) }
 {

@@ -42,7 +42,7 @@ pub fn places_in(places: &[Row<usize>], function: usize) -> &[usize]
 /// A call: first its arguments, then the bound, then the body.
 pub fn call<'a>(
     tracer: &mut Tracer<'a>,
-    bound: u32,
+    bound: u64,
     target: Target,
     called: &'a Called,
     places: &'a [usize],
@@ -69,7 +69,7 @@ pub fn call<'a>(
 /// The function begins on the words of its arguments, if there is such a function and it takes so many.
 fn enter<'a>(
     tracer: &mut Tracer<'a>,
-    bound: u32,
+    bound: u64,
     target: Target,
     number: usize,
     at: usize,

@@ -11,7 +11,7 @@ pub struct Running {
 /// A loop that is under way: the bound of its turn, its condition, its body, what is done behind it, and their places.
 #[derive(Clone, Copy)]
 pub struct Cycle<'a> {
-    pub bound: u32,
+    pub bound: u64,
     pub condition: &'a Term,
     pub body: &'a Action,
     pub last: &'a Action,
@@ -31,7 +31,7 @@ pub struct Waiting {
 #[derive(Clone, Copy)]
 pub enum Item<'a> {
     /// These actions, with this bound and their places.
-    Do(u32, &'a [Action], &'a [usize]),
+    Do(u64, &'a [Action], &'a [usize]),
     /// A loop whose body is done now.
     Body(Cycle<'a>),
     /// A loop at the end of a turn: what is done now stands behind its body.

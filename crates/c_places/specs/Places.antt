@@ -1,0 +1,25 @@
+-- Where a byte stands in a text.
+use Rattle.std.specs.Prelude.{ℕ, ◌+◌, ◌==◌, if◌then◌else◌, List, [], ◌∷◌, take}
+use Rattle.std.specs.List.{count_by}
+use Rattle.c_places.specs.declared.place.Place.{Place}
+
+-- how many line feeds there are
+abbrev pub feeds : List ℕ → ℕ
+feeds bytes = count_by (λ b. b == 10) bytes
+
+-- how many bytes stand behind the last line feed, with so many in front of these
+abbrev pub behind_from : ℕ → List ℕ → ℕ
+behind_from n [] = n
+behind_from n (b ∷ rest) = behind_from (if b == 10 then 0 else n + 1) rest
+
+-- The place behind these bytes: its line is one more than the line feeds among them, its column one more than the bytes behind the last.
+abbrev pub behind_all : List ℕ → Place
+behind_all bytes = record { line = feeds bytes + 1; column = behind_from 0 bytes + 1 }
+
+-- the place of the byte at an offset
+abbrev pub place_of : List ℕ → ℕ → Place
+place_of text at = behind_all (take at text)
+
+-- the place behind one more byte
+abbrev pub after : Place → ℕ → Place
+after place b = if b == 10 then (record { line = place.line + 1; column = 1 }) else record { line = place.line; column = place.column + 1 }

@@ -1,0 +1,49 @@
+//! Where a byte stands in a text.
+
+ghost use Rattle.std.specs.Prelude.{◌≡◌, ◌≤◌, ◌<◌, ◌+◌, ◌^◌, take};
+ghost use Rattle.c_places.specs.Places.{after, place_of};
+
+/// Where a byte stands in a text: both count from 1, the column in bytes.
+#[derive(Clone, Copy, Debug, PartialEq, Eq)]
+pub struct Place {
+    pub line: usize,
+    pub column: usize,
+}
+
+/// The bytes in front of an offset, which are all where it is behind the text.
+fn front_of(text: &[u8], at: usize) -> &[u8]
+    ensures { result.now ≡ take at text.now }
+{
+    if at < text.len() { &text[..at] } else { text }
+}
+
+/// The place behind a byte.
+fn behind(place: Place, byte: u8) -> Place
+    requires small { (place.line < 2 ^ 63) × (place.column < 2 ^ 63) }
+    ensures place { result ≡ after place byte }
+    ensures near { (result.line ≤ place.line + 1) × (result.column ≤ place.column + 1) }
+{
+    if byte == b'\n' {
+        Place {
+            line: place.line + 1,
+            column: 1,
+        }
+    } else {
+        Place {
+            line: place.line,
+            column: place.column + 1,
+        }
+    }
+}
+
+/// The place of the byte at this offset.
+pub fn place_of(text: &[u8], at: usize) -> Place
+    ensures { result ≡ place_of text.now at }
+{
+    let front = front_of(text, at);
+    let mut place = Place { line: 1, column: 1 };
+    for count in 0..front.len() {
+        place = behind(place, front[count]);
+    }
+    place
+}

@@ -1,0 +1,4 @@
+pub mod Calls
+pub mod Names
+pub mod Telling
+pub mod Groups

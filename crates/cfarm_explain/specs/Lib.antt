@@ -1,0 +1,4 @@
+pub mod Causes
+pub mod Lines
+pub mod Explained
+pub mod Bounds
