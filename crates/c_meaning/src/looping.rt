@@ -78,7 +78,7 @@ fn one_turn<'a>(machine: &mut Machine<'a>, cycle: Cycle<'a>) -> Result<Option<Ne
 fn begin<'a>(
     machine: &mut Machine<'a>,
     left: Left<'a>,
-    bound: u32,
+    bound: u64,
     action: &'a Action,
     rest: &'a [Action],
 ) -> Result<Next, NoMemory>

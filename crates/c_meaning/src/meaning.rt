@@ -14,7 +14,7 @@ use std::io::Write;
 pub fn run<W: Write>(
     alloc: Global,
     program: &CProgram,
-    bound: u32,
+    bound: u64,
     out: &mut W,
 ) -> Result<Shown, RunError>
     ensures { Wrote (crun (program_tree program.now) bound) result (W.contents out.old) (W.contents out.new) }

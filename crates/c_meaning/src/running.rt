@@ -40,7 +40,7 @@ pub fn run_program<W: Write>(
     globals: &[GlobalVariable],
     functions: &[Function],
     main: usize,
-    n: u32,
+    n: u64,
     out: &mut W,
 ) -> Result<Shown, RunError>
     ensures { Wrote (crun (program_of globals.now functions.now main) n) result (W.contents out.old) (W.contents out.new) }

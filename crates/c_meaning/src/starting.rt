@@ -46,7 +46,7 @@ pub fn start<'a>(
     globals: &[GlobalVariable],
     functions: &'a [Function],
     main: &'a Function,
-    bound: u32,
+    bound: u64,
 ) -> Result<Machine<'a>, NoMemory>
     ensures { IfOk result (StartsMain globals.now functions.entry.now main.entry.now bound) }
 {

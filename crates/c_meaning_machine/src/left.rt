@@ -5,7 +5,7 @@ use c_program::{Action, Ending, Target, Term};
 /// A loop that is under way: the bound of its turn, its condition, its body, and what is done behind it.
 #[derive(Clone, Copy)]
 pub struct Cycle<'a> {
-    pub bound: u32,
+    pub bound: u64,
     pub condition: &'a Term,
     pub body: &'a Action,
     pub behind: &'a Action,
@@ -18,7 +18,7 @@ pub struct Waiting<'a> {
     pub ending: Ending,
     pub target: Target,
     pub base: usize,
-    pub bound: u32,
+    pub bound: u64,
     pub actions: &'a [Action],
 }
 
@@ -35,7 +35,7 @@ pub fn same(actions: &[Action]) -> &[Action]
 #[derive(Clone, Copy)]
 pub enum Left<'a> {
     /// These actions, with this bound.
-    Rest(u32, &'a [Action]),
+    Rest(u64, &'a [Action]),
     /// A loop whose body is done now.
     Body(Cycle<'a>),
     /// A loop at the end of a turn: what is done now stands behind its body.

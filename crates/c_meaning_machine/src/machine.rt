@@ -7,7 +7,7 @@ use c_program::{Action, Function};
 pub struct Machine<'a> {
     pub functions: &'a [Function],
     /// The bound that is left.
-    pub bound: u32,
+    pub bound: u64,
     /// What is done next, with that bound.
     pub actions: &'a [Action],
     /// What is done behind it.

@@ -15,7 +15,7 @@ use std::io::Write;
 pub fn interpret<W: Write>(
     alloc: Global,
     text: &[u8],
-    depth: u32,
+    depth: u64,
     out: &mut Paced<W>,
 ) -> Result<Shown, CommandError>
     // The text is accepted, and what its program does at the bound was written and is told.

@@ -27,7 +27,7 @@ fn checked(alloc: Global, text: &[u8]) -> Result<Told, AllocError> {
 /// What `interpret` tells.
 fn interpreted(alloc: Global, text: &[u8], depth: u32) -> Result<Told, AllocError> {
     let mut output = Paced::over(Vec::new(alloc), false);
-    let closing = match interpret(alloc, text, depth, &mut output) {
+    let closing = match interpret(alloc, text, u64::from(depth), &mut output) {
         Ok(shown) => Closing(shown).to_string(alloc)?,
         Err(fault) => fault.to_string(alloc)?,
     };
