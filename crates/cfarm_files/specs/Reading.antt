@@ -3,6 +3,7 @@ use Rattle.std.specs.Prelude.{◌≡◌, ℕ, Bool, true, false, List, Option, N
 use Rattle.std.specs.Global.{Vec}
 use Rattle.cfarm_files.specs.declared.fault.FileFault.{FileFault}
 use Rattle.cfarm_files.specs.declared.fault.FileFault.TheVariants.{NoMemory, Refused}
+use Rattle.cfarm_files.specs.declared.reason.Reason.{Reason}
 
 -- where it is known what a file is read as, this is it
 abbrev pub IsKnownAs : Option (Result (List ℕ) FileFault) → Result (List ℕ) FileFault → Type 0
@@ -20,16 +21,16 @@ IsKnownSo (Some known) is_so = is_so ≡ known
 
 -- nothing is there, which is known as a file that is refused
 abbrev pub IsNotThere : Option (Result (List ℕ) FileFault) → Option Bool → Type 0
-IsNotThere known there = IsKnownAs known (Err Refused) × IsKnownSo there false
+IsNotThere known there = ((reason : Reason) × IsKnownAs known (Err (Refused reason))) × IsKnownSo there false
 
--- something is there, and it is refused
-abbrev pub IsRefusedThere : Option (Result (List ℕ) FileFault) → Option Bool → Type 0
-IsRefusedThere known there = IsKnownAs known (Err Refused) × IsKnownSo there true
+-- something is there, and it is refused for this reason
+abbrev pub IsRefusedThere : Option (Result (List ℕ) FileFault) → Option Bool → Reason → Type 0
+IsRefusedThere known there reason = IsKnownAs known (Err (Refused reason)) × IsKnownSo there true
 
 -- there was no memory for the file, or it is there and refused
 abbrev pub IsFaultThere : Option (Result (List ℕ) FileFault) → Option Bool → FileFault → Type 0
 IsFaultThere known there NoMemory = IsKnownAs known (Err NoMemory)
-IsFaultThere known there Refused = IsRefusedThere known there
+IsFaultThere known there (Refused reason) = IsRefusedThere known there reason
 
 -- what was read of a file that need not be there
 abbrev pub IsFileReadIfThere : Option (Result (List ℕ) FileFault) → Option Bool → Result (Option (Vec ℕ)) FileFault → Type 0

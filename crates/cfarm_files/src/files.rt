@@ -30,6 +30,9 @@ pub trait Files {
     /// Whether a file may be put at a path, where that is known: nothing is there, or a plain file.
     ghost free: { Self → List ℕ → Option Bool } = { λ _ _. None };
 
+    /// Whether a path leads to something, where that is known.
+    ghost found: { Self → List ℕ → Option Bool } = { λ _ _. None };
+
     /// The leave to take a lock. No call gives it back: whoever has it once takes one lock.
     ghost may_lock: { Self → Type 0 } = { λ _. Unit {0} };
 
@@ -73,6 +76,10 @@ pub trait Files {
     /// Whether a file may be put at this path: nothing is there, or a plain file. A link is neither, wherever it leads.
     fn is_free(&self, path: &str) -> bool
         ensures { IsKnownSo (free self.now path.now) result };
+
+    /// Whether this path leads to something, where a link is followed: a file, a folder, or what may not be looked at.
+    fn is_found(&self, path: &str) -> bool
+        ensures { IsKnownSo (found self.now path.now) result };
 
     /// The lock of this folder, which is that of the file of this path in it; the file is made, empty, where there is none, and
     /// stays. Refused, and not waited for, where somebody has the lock, and where the path leads to something else than a plain file.

@@ -8,8 +8,10 @@ mod host;
 mod locking;
 mod looking;
 mod placing;
+mod reason;
 
 pub use fault::{DiskFault, FileFault};
 pub use files::Files;
 pub use host::HostFiles;
 pub use locking::lock_path;
+pub use reason::Reason;

@@ -8,7 +8,6 @@ use crate::looking::leads_to_free;
 use std::alloc::{AllocError, Global};
 use std::fs::{File, OpenOptions};
 use std::io;
-use std::io::ErrorKind;
 use std::path::Path;
 
 /// The file that is locked while somebody has the folder.
@@ -22,9 +21,7 @@ pub fn lock_path(alloc: Global, folder: &str) -> Result<String, AllocError>
 /// The file of this path, locked; it is made, empty, where there is none. What is there and leads to no plain file is refused. It is opened for
 /// reading too, so that a pipe that takes its name in between is not waited for.
 pub(crate) fn locked(rt: &HostRuntime, path: &str) -> io::Result<File> {
-    if !leads_to_free(rt, path) {
-        return Err(io::Error::from(ErrorKind::AlreadyExists));
-    }
+    leads_to_free(rt, path)?;
     let mut options = OpenOptions::new();
     let file = options.read(true).write(true).create(true).open(rt, path)?;
     match file.try_lock() {

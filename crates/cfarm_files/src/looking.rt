@@ -30,21 +30,42 @@ pub(crate) fn are_same(rt: &HostRuntime, path: &str, other: &str) -> bool {
     }
 }
 
-/// Whether nothing of this path is there, or a plain file. A link is not followed. Nothing is in a folder that is none.
-pub(crate) fn is_free(rt: &HostRuntime, path: &str) -> bool {
+/// That something else than a plain file is there.
+fn not_plain() -> io::Error {
+    io::Error::from(ErrorKind::AlreadyExists)
+}
+
+/// Whether nothing of this path is there, or a plain file, or why that is not so. A link is not followed. Nothing is in a folder that is none.
+pub(crate) fn free_at(rt: &HostRuntime, path: &str) -> io::Result<()> {
     match fs::symlink_metadata(rt, path) {
-        Ok(found) => found.is_file(),
-        Err(fault) => {
-            let kind = fault.kind();
-            kind == ErrorKind::NotFound || kind == ErrorKind::NotADirectory
-        }
+        Ok(found) if found.is_file() => Ok(()),
+        Ok(_) => Err(not_plain()),
+        Err(fault) => match fault.kind() {
+            ErrorKind::NotFound | ErrorKind::NotADirectory => Ok(()),
+            _ => Err(fault),
+        },
     }
 }
 
 /// The same of what the path leads to, where a link is followed.
-pub(crate) fn leads_to_free(rt: &HostRuntime, path: &str) -> bool {
+pub(crate) fn leads_to_free(rt: &HostRuntime, path: &str) -> io::Result<()> {
     match fs::metadata(rt, path) {
-        Ok(found) => found.is_file(),
-        Err(fault) => fault.kind() == ErrorKind::NotFound,
+        Ok(found) if found.is_file() => Ok(()),
+        Ok(_) => Err(not_plain()),
+        Err(fault) => match fault.kind() {
+            ErrorKind::NotFound => Ok(()),
+            _ => Err(fault),
+        },
+    }
+}
+
+/// Whether the path leads to something. Nothing is in a folder that is none, and a link to nothing leads to nothing.
+pub(crate) fn leads_to_something(rt: &HostRuntime, path: &str) -> bool {
+    match fs::metadata(rt, path) {
+        Ok(_) => true,
+        Err(fault) => match fault.kind() {
+            ErrorKind::NotFound | ErrorKind::NotADirectory => false,
+            _ => true,
+        },
     }
 }

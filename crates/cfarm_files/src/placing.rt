@@ -1,8 +1,8 @@
 //! A file in the place of another.
 
-use crate::looking::is_free;
+use crate::looking::free_at;
 use std::fs::{File, OpenOptions};
-use std::io::{ErrorKind, Write};
+use std::io::Write;
 use std::path::Path;
 use std::{fs, io};
 
@@ -55,9 +55,7 @@ fn written_and_renamed(rt: &HostRuntime, beside: &str, path: &str, bytes: &[u8])
 /// is refused before that, the old file stays as it was, and the one beside is taken away. Where the folder cannot be synced the new file
 /// stands, and a crash may leave the old one.
 pub(crate) fn place(rt: &HostRuntime, path: &str, bytes: &[u8]) -> io::Result<()> {
-    if !is_free(rt, path) {
-        return Err(io::Error::from(ErrorKind::AlreadyExists));
-    }
+    free_at(rt, path)?;
     let folder = File::open(rt, folder_of(path))?;
     let beside = format!(in rt.alloc(); "{path}.new")?;
     written_and_renamed(rt, &beside, path, bytes)?;

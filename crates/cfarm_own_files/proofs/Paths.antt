@@ -4,7 +4,7 @@ use Rattle.cfarm_files.specs.declared.files.Files as filing
 use Rattle.cfarm_options.specs.Names.{is_taken}
 use Rattle.cfarm_options.specs.Paths.{linked_path}
 use Rattle.cfarm_options.specs.declared.options.BuildOptions.{BuildOptions}
-use Rattle.cfarm_own_files.specs.Barred.{AreAllFree, AreBundlesFree, AreOffersFree, IsBarredBundle, IsBundle, IsBundleBarred, IsBundleFree, MayBeFree}
+use Rattle.cfarm_own_files.specs.Barred.{AreAllFree, AreBundlesFree, AreOffersFree, IsBarredBundle, IsBundle, IsBundleBarred, IsBundleFree, MayBeFound, MayBeFree, MayBeOffers}
 use Rattle.cfarm_own_files.specs.Own.{IsNoOwn, MayBeTwo, beside}
 
 module _ {F D L : Type 0} {E : Type 0} (over : filing.Ghosts F D L) (files : F) (text : List ℕ) where
@@ -14,6 +14,11 @@ module _ {F D L : Type 0} {E : Type 0} (over : filing.Ghosts F D L) (files : F) 
   bundle_free folder path (Ok own) name other next free none =
       λ no. record { name = name; not_text = other; not_beside = next; not_own = none no; free = free }
   bundle_free folder path (Err e) name other next free none = tt
+
+  pub offers_free : (folder path : List ℕ) (r : Result Bool E) → MayBeFound over files path → IfOk r (λ own. own ≡ false → IsNoOwn over files folder path)
+      → IfOk r (λ own. own ≡ false → MayBeOffers over files folder path)
+  offers_free folder path (Ok own) found none = λ no. record { found = found; not_own = none no }
+  offers_free folder path (Err e) found none = tt
 
   module _ {S : Type 0} (options : BuildOptions) where
     pub bundle_barred : (bytes : S → List ℕ) (path : List ℕ) (is_barred : Bool) (r : Result (Option S) E)

@@ -24,6 +24,24 @@ module _ {F D L : Type 0} (over : filing.Ghosts F D L) (files : F) where
   abbrev pub MayBeFree : List ℕ → Type 0
   MayBeFree path = IsKnownSo (over.free files path) true
 
+  -- it leads to nothing, unless it is known to lead to something
+  abbrev pub MayBeMissing : List ℕ → Type 0
+  MayBeMissing path = IsKnownSo (over.found files path) false
+
+  -- it leads to something, unless it is known to lead to nothing
+  abbrev pub MayBeFound : List ℕ → Type 0
+  MayBeFound path = IsKnownSo (over.found files path) true
+
+  module _ (folder : List ℕ) where
+    -- no offers are read of this path: it leads to nothing, or to a file of the build's
+    abbrev pub IsNoOffers : List ℕ → Type 0
+    IsNoOffers path = MayBeMissing path ⊎ IsOwn over files folder path
+
+    -- they may be read of this one
+    pub record MayBeOffers (path : List ℕ) : Type 0 where
+      pub found : MayBeFound path
+      pub not_own : IsNoOwn over files folder path
+
   module _ (folder text : List ℕ) where
     -- What is put at this path takes the place of a file of the build's by its name, of the text, of a file of the build's that it is, or
     -- of what is no plain file.
@@ -48,13 +66,13 @@ module _ {F D L : Type 0} (over : filing.Ghosts F D L) (files : F) where
     abbrev pub IsOffers : List ℕ → Type 0
     IsOffers path = option_copied options.offers ≡ Some path
 
-    -- that of the offers leads to a file of the build's
+    -- that of the offers leads to nothing, or to a file of the build's
     abbrev pub IsBarredOffers : List ℕ → Type 0
-    IsBarredOffers path = IsOffers path × IsOwn over files options.folder.now path
+    IsBarredOffers path = IsOffers path × IsNoOffers options.folder.now path
 
-    -- whatever it is, it leads to none
+    -- whatever it is, it leads to something else
     abbrev pub AreOffersFree : Type 0
-    AreOffersFree = (path : List ℕ) → IsOffers path → IsNoOwn over files options.folder.now path
+    AreOffersFree = (path : List ℕ) → IsOffers path → MayBeOffers options.folder.now path
 
     -- this is that of the program, and something else than a plain file is there
     abbrev pub IsBarredProgram : List ℕ → Type 0

@@ -1,2 +1,3 @@
 pub mod Own
 pub mod Barred
+pub mod Kept

@@ -2,7 +2,7 @@
 
 ghost use Rattle.std.specs.Prelude.{◌≡◌, IfOk, IfSome, false, true};
 ghost use Rattle.cfarm_options.specs.Paths.{linked_path};
-ghost use Rattle.cfarm_own_files.specs.Barred.{AreAllFree, AreBundlesFree, AreOffersFree, Finds, FindsNone, IsBarred, IsBarredBundle, IsBarredOffers, IsBarredProgram, IsBarredText, IsBundleBarred, IsBundleFree, MayBeFree};
+ghost use Rattle.cfarm_own_files.specs.Barred.{AreAllFree, AreBundlesFree, AreOffersFree, Finds, FindsNone, IsBarred, IsBarredBundle, IsBarredOffers, IsBarredProgram, IsBarredText, IsBundleBarred, IsBundleFree, IsNoOffers, MayBeFree, MayBeOffers};
 ghost use Rattle.cfarm_own_files.specs.Own.{IsNoOwn};
 
 use crate::own::{beside, is_own};
@@ -84,7 +84,23 @@ fn barred_bundle<F: Files>(
     }
 }
 
-/// The path of the folder of offers, where one is given and leads to a file of the build's.
+/// Whether no offers are read of this path: it leads to nothing, or to a file of the build's.
+fn is_no_offers<F: Files>(
+    alloc: Global,
+    files: &F,
+    folder: &str,
+    path: &str,
+) -> Result<bool, AllocError>
+    ensures barred { IfOk result (λ is. is ≡ true → IsNoOffers F.Files files.now folder.now path.now) }
+    ensures free { IfOk result (λ is. is ≡ false → MayBeOffers F.Files files.now folder.now path.now) }
+{
+    if !files.is_found(path) {
+        return Ok(true);
+    }
+    is_own(alloc, files, folder, path)
+}
+
+/// The path of the folder of offers, where one is given and leads to nothing, or to a file of the build's.
 fn barred_offers<F: Files>(
     alloc: Global,
     files: &F,
@@ -96,8 +112,8 @@ fn barred_offers<F: Files>(
     let Some(path) = options.offers else {
         return Ok(None);
     };
-    match is_own(alloc, files, options.folder, path) {
-        Ok(is_own) => barred_path(alloc, is_own, path),
+    match is_no_offers(alloc, files, options.folder, path) {
+        Ok(is_barred) => barred_path(alloc, is_barred, path),
         Err(fault) => Err(fault),
     }
 }

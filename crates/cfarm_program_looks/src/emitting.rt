@@ -1,6 +1,7 @@
 ghost use Rattle.std.specs.Prelude.{◌≤◌};
 ghost use Rattle.cfarm_program_looks.specs.Emitting.{Formed};
 ghost use Rattle.cfarm_program_status.specs.Reading.{Says};
+ghost use Rattle.cfarm_program_status.specs.Trace.{shown};
 
 use cfarm_emit::emit;
 use cfarm_options::Emitted;
@@ -19,7 +20,7 @@ pub fn emit_form<W: Write, E: ErrorLines>(
     out: &mut Paced<W>,
     err: &mut E,
 ) -> u8
-    ensures does { Says W.contents E.contents (Formed text.now emitted seed) result out.old out.new err.old err.new }
+    ensures does { Says W.contents E.contents (Formed text.now emitted seed) (shown result out err) }
     ensures table { result ≤ 7 }
 {
     match emit(alloc, text, emitted, seed, out) {

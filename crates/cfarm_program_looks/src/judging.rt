@@ -1,6 +1,7 @@
 ghost use Rattle.std.specs.Prelude.{◌≤◌};
 ghost use Rattle.cfarm_program_looks.specs.Judging.{Accepted, Judged};
 ghost use Rattle.cfarm_program_status.specs.Reading.{Says};
+ghost use Rattle.cfarm_program_status.specs.Trace.{shown};
 
 use cfarm_files::Files;
 use cfarm_judge::{JudgeLine, judge};
@@ -21,7 +22,7 @@ fn judge_bytes<W: Write, E: ErrorLines>(
     err: &mut E,
 ) -> u8
     ensures does { Says W.contents E.contents (Accepted name.now path.now text.now offer.now)
-        result out.old out.new err.old err.new }
+        (shown result out err) }
     ensures table { result ≤ 7 }
 {
     match judge(alloc, text, name.as_bytes(), offer, out) {
@@ -44,7 +45,7 @@ pub fn judge_offer<F: Files, W: Write, E: ErrorLines>(
     err: &mut E,
 ) -> u8
     ensures does { Says W.contents E.contents (Judged (F.known files.now) name.now path.now text.now)
-        result out.old out.new err.old err.new }
+        (shown result out err) }
     ensures table { result ≤ 7 }
 {
     match files.read(path) {

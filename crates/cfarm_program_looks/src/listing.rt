@@ -1,6 +1,7 @@
 ghost use Rattle.std.specs.Prelude.{◌≤◌};
 ghost use Rattle.cfarm_program_looks.specs.Listing.{Listed};
 ghost use Rattle.cfarm_program_status.specs.Reading.{Says};
+ghost use Rattle.cfarm_program_status.specs.Trace.{shown};
 
 use cfarm_log::list_journal;
 use cfarm_output::{ErrorLines, Paced};
@@ -16,7 +17,7 @@ pub fn list_records<W: Write, E: ErrorLines>(
     out: &mut Paced<W>,
     err: &mut E,
 ) -> u8
-    ensures does { Says W.contents E.contents (Listed bytes.now) result out.old out.new err.old err.new }
+    ensures does { Says W.contents E.contents (Listed bytes.now) (shown result out err) }
     ensures table { result ≤ 7 }
 {
     match list_journal(alloc, bytes, out) {

@@ -1,6 +1,7 @@
 ghost use Rattle.std.specs.Prelude.{◌≤◌};
 ghost use Rattle.cfarm_program_looks.specs.Showing.{Texted};
 ghost use Rattle.cfarm_program_status.specs.Reading.{Says};
+ghost use Rattle.cfarm_program_status.specs.Trace.{shown};
 
 use cfarm_output::{ErrorLines, Paced};
 use cfarm_program_status::tell;
@@ -16,7 +17,7 @@ pub fn show_text<W: Write, E: ErrorLines>(
     out: &mut Paced<W>,
     err: &mut E,
 ) -> u8
-    ensures does { Says W.contents E.contents (Texted bytes.now) result out.old out.new err.old err.new }
+    ensures does { Says W.contents E.contents (Texted bytes.now) (shown result out err) }
     ensures table { result ≤ 7 }
 {
     match show(alloc, bytes, out) {

@@ -3,6 +3,7 @@ ghost use Rattle.cfarm_verify.specs.Found.{AreSpelled, IsPrepared};
 ghost use Rattle.cfarm_program_looks.specs.Reading.{AreRead, IsReadWith};
 ghost use Rattle.cfarm_program_looks.specs.Verifying.{Proven, Verified};
 ghost use Rattle.cfarm_program_status.specs.Reading.{Says};
+ghost use Rattle.cfarm_program_status.specs.Trace.{shown};
 
 use cfarm_files::{FileFault, Files};
 use cfarm_output::{ErrorLines, Paced};
@@ -74,7 +75,7 @@ fn verify_bytes<R: Threads + Sync, W: Write, E: ErrorLines>(
     requires source { IsPrepared text.now source }
     requires forms { AreSpelled program.now bundle.now forms }
     ensures does { Says W.contents E.contents (Proven program_path.now path.now text.now program.now bundle.now)
-        result out.old out.new err.old err.new }
+        (shown result out err) }
     ensures table { result ≤ 7 }
 {
     match verify(rt, alloc, text, program, bundle, source, forms, out) {
@@ -104,7 +105,7 @@ pub fn verify_files<R: Threads + Sync, F: Files, W: Write, E: ErrorLines>(
     err: &mut E,
 ) -> u8
     ensures does { Says W.contents E.contents (Verified (F.known files.now) program_path.now path.now text.now)
-        result out.old out.new err.old err.new }
+        (shown result out err) }
     ensures table { result ≤ 7 }
 {
     let (source, read) = join(

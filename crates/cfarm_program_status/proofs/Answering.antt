@@ -1,5 +1,5 @@
 -- A line that is told with a status.
-use Rattle.std.specs.Prelude.{◌≡◌, ◌⊎◌, ℕ, Bool, true, false, ◌&&◌, List, [], ◌∷◌, ◌++◌, Option, None, Some, IfSome}
+use Rattle.std.specs.Prelude.{◌≡◌, ℕ, Bool, true, false, ◌&&◌, List, [], ◌∷◌, ◌++◌, Option, None, Some, IfSome}
 use Rattle.std.specs.Fmt.{with_newline}
 use Rattle.std.proofs.Common.{ap, subst, refl, inl, inr, append_assoc, true≢false, ◌∙◌}
 use Rattle.std.specs.Io.KnownBytes.{Appends}

@@ -1,2 +1,3 @@
+pub mod Trace
 pub mod Reading
 pub mod Telling

@@ -5,4 +5,4 @@ mod telling;
 mod unread;
 
 pub use telling::{UNWRITTEN, tell, tell_among, tell_no_memory};
-pub use unread::tell_unread;
+pub use unread::{tell_barred, tell_unread};
