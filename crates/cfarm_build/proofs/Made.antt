@@ -106,7 +106,7 @@ module _ {D O H : Type 0} {h : naming.Ghosts H} (disk : disks.Ghosts D) (turns :
 -- the nodes of a farm that opened over a source
 pub opened_so : {D O H : Type 0} {h : naming.Ghosts H} (disk : disks.Ghosts D) (pair : pairs.Ghosts D) (q : Sizes) (seed : ℕ) (source opened : Source) (given : List D)
     (nodes : List (FarmNode D O H h)) → opened ≡ source → AreJournalsOn disk pair q opened.digest given (map (λ n. n.log) nodes)
-    → AreOpenFromJournals disk.is_honest disk.seen q (length (arc_value opened.translated).functions) (map (λ n. n.log) nodes) (map (λ n. n.seats.items) nodes)
+    → AreOpenFromJournals disk q (length (arc_value opened.translated).functions) (map (λ n. n.log) nodes) (map (λ n. n.seats.items) nodes)
     → map (λ n. n.draws) nodes ≡ generators seed (length given) → All (λ n. arc_value n.program ≡ arc_value opened.translated) nodes → All (λ n. n.halted ≡ None) nodes
     → HaveOpened disk pair q source given seed nodes
 opened_so disk pair q seed source opened given nodes same journals rooms draws program going = subst (λ (s : Source). HaveOpened disk pair q s given seed nodes) same (record {

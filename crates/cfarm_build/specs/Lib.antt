@@ -7,7 +7,6 @@ pub mod Done
 pub mod Farmed
 pub mod Gone
 pub use Rattle.cfarm_build_folder.specs.Answers
-pub use Rattle.cfarm_build_folder.specs.Changed
 pub use Rattle.cfarm_build_folder.specs.declared.error.BuildingError
 pub use Rattle.cfarm_build_turns.specs.Alike
 pub use Rattle.cfarm_build_turns.specs.Neighbours

@@ -19,6 +19,7 @@ use cfarm_build_folder::{
     BuildError, BuildingError, JournalPaths, Optimisers, Optimising, close_disks, locked,
     old_among, open_disks, optimisers_of,
 };
+use cfarm_build_notes::{Standing, note_lost, note_migrated, standing_of};
 use cfarm_build_offers::{NodeOffers, Outside, outside_of, read_given};
 use cfarm_build_turns::Built;
 use cfarm_files::Files;
@@ -69,6 +70,21 @@ fn oracles_of<'a>(
     }
 }
 
+/// Notes what a user is to be told of the folder, from what stood there before: the journals that were migrated where nothing opens, else the
+/// nodes that had none.
+fn note_standing<M: Meter>(
+    nodes: usize,
+    before: Standing,
+    after: Standing,
+    made: &Result<Built, BuildError>,
+    meter: &mut M,
+) {
+    match made {
+        Err(BuildError::Disks(_)) => note_migrated(nodes, before, after, meter),
+        _ => note_lost(before, meter),
+    }
+}
+
 /// What a farm builds of what was made ready, with the quorums that are asked for, over the journals of the folder, whose lock is had. Each disk
 /// that is opened is closed again.
 fn made_under<H: Naming + Send, R: Threads + Wait + Sync, F: Files, M: Meter>(
@@ -99,7 +115,9 @@ fn made_under<H: Naming + Send, R: Threads + Wait + Sync, F: Files, M: Meter>(
         Ok(disks) => disks,
         Err(fault) => return Err(fault),
     };
-    meter.found(old_among(&*files, &disks), disks.len());
+    let old = old_among(&*files, &disks);
+    meter.found(old, disks.len());
+    let before = standing_of(old, &disks);
     let nodes = usize::from(quorums.nodes());
     let Ok(oracles) = oracles_of(alloc, options, nodes, given) else {
         close_disks(&paths, files, lock, disks);
@@ -110,6 +128,8 @@ fn made_under<H: Naming + Send, R: Threads + Wait + Sync, F: Files, M: Meter>(
     let (made, back) = build(
         host, source, disks, oracles, turns, seed, quorums, bundles, meter,
     );
+    let after = standing_of(old_among(&*files, &back), &back);
+    note_standing(nodes, before, after, &made, meter);
     close_disks(&paths, files, lock, back);
     match made {
         Ok(built) => Ok(built),

@@ -3,6 +3,8 @@ use Rattle.std.specs.Prelude.{ℕ, zero, suc, List, ◌++◌, codes}
 use Rattle.std.specs.Fmt.{decimal}
 use Rattle.std.specs.String.{string_bytes}
 use Rattle.acceptor_log_form.specs.Refusals as journals
+use Rattle.acceptor_log_form.specs.declared.errors.LogError.{LogError}
+use Rattle.acceptor_log_form.specs.declared.errors.LogError.TheVariants as L
 use Rattle.farm_nodes.specs.Told.{source_line}
 use Rattle.farm_nodes_turn_offer.specs.declared.halt.Fault.{Fault}
 use Rattle.farm_nodes_turn_offer.specs.Halted as halts
@@ -46,3 +48,33 @@ build_line Undecided = codes "undecided"
 build_line (Unlinked fault function) =
     codes "link " ++ (decimal (number_of_link_error fault) ++ (codes " " ++ (link_name fault ++ (codes " in " ++ string_bytes function))))
 build_line Names = codes "link 603 Names"
+
+-- what stands behind the line of a journal that is of another build: the end of the line, and why
+abbrev pub journal_behind : LogError → List ℕ
+journal_behind L.NoMemory = codes ""
+journal_behind L.Device = codes ""
+journal_behind L.NotAJournal = codes ""
+journal_behind L.BadRecord = codes ""
+journal_behind L.OtherSource = codes "\nthe journals of that folder are of another text, nodes or quorums: this build needs a folder of its own (--dir)"
+journal_behind L.Stopped = codes ""
+journal_behind L.Full = codes ""
+
+abbrev pub disks_behind : OpenFault → List ℕ
+disks_behind O.NoMemory = codes ""
+disks_behind (O.Journal node fault) = journal_behind fault
+disks_behind (O.Refused node) = codes ""
+disks_behind (O.Room room fault) = codes ""
+
+abbrev pub build_behind : BuildError → List ℕ
+build_behind NoMemory = codes ""
+build_behind NoThread = codes ""
+build_behind (Source fault) = codes ""
+build_behind (Disks fault) = disks_behind fault
+build_behind (Failed node fault) = codes ""
+build_behind Undecided = codes ""
+build_behind (Unlinked fault function) = codes ""
+build_behind Names = codes ""
+
+-- the line, with what explains it
+abbrev pub told_line : BuildError → List ℕ
+told_line fault = build_line fault ++ build_behind fault

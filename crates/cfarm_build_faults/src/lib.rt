@@ -2,10 +2,12 @@
 //! are passed on to the crates above.
 #![tactic(auto)]
 
+mod behind;
 mod error;
 mod names;
 mod telling;
 
+pub use behind::ToldFault;
 pub use error::BuildError;
 pub use farm_nodes::{
     Farm, OpenFault, Optimisers, Optimising, SourceFault, meet_nodes, optimisers_of, run_threads,

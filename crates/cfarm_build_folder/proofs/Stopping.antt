@@ -43,7 +43,7 @@ module _ (options : BuildOptions) (bundle : Option (List ℕ)) (program report :
     pub stopped : (e : BuildingError) → PlacesNotBoth options bundle placed now_placed program e
         → IsUnput options bundle program report placed now_placed before after e
     stopped (Build f) none = (none, same)
-    stopped (File path) none = (none, same)
+    stopped (File path reason) none = (none, same)
     stopped Write none = absurd (write_last options program bundle placed now_placed none)
 
   -- no memory for the line

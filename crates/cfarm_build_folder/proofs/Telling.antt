@@ -15,7 +15,7 @@ module _ (path other : List ℕ) where
   first_refused (Build Undecided) is = is
   first_refused (Build (Unlinked fault name)) is = is
   first_refused (Build Names) is = is
-  first_refused (File told) is = inl is
+  first_refused (File told reason) is = inl is
   first_refused Write is = is
 
   pub other_refused : (e : BuildingError) → IsRefusedAt other e → IsRefusedAtEither path other e
@@ -27,5 +27,5 @@ module _ (path other : List ℕ) where
   other_refused (Build Undecided) is = is
   other_refused (Build (Unlinked fault name)) is = is
   other_refused (Build Names) is = is
-  other_refused (File told) is = inr is
+  other_refused (File told reason) is = inr is
   other_refused Write is = is

@@ -19,7 +19,7 @@ IsRefusedAt path (Build (Failed node fault)) = ⊥
 IsRefusedAt path (Build Undecided) = ⊥
 IsRefusedAt path (Build (Unlinked fault name)) = ⊥
 IsRefusedAt path (Build Names) = ⊥
-IsRefusedAt path (File told) = string_bytes told ≡ path
+IsRefusedAt path (File told reason) = string_bytes told ≡ path
 IsRefusedAt path Write = ⊥
 
 -- the one of two files is refused, or the other, or memory was
@@ -32,7 +32,7 @@ IsRefusedAtEither path other (Build (Failed node fault)) = ⊥
 IsRefusedAtEither path other (Build Undecided) = ⊥
 IsRefusedAtEither path other (Build (Unlinked fault name)) = ⊥
 IsRefusedAtEither path other (Build Names) = ⊥
-IsRefusedAtEither path other (File told) = (string_bytes told ≡ path) ⊎ (string_bytes told ≡ other)
+IsRefusedAtEither path other (File told reason) = (string_bytes told ≡ path) ⊎ (string_bytes told ≡ other)
 IsRefusedAtEither path other Write = ⊥
 
 -- a file of this node is refused

@@ -25,5 +25,5 @@ module _ (options : BuildOptions) (bundle : Option (List ℕ)) (program report :
   -- In this order: the files, the output, of which a beginning may have been printed.
   abbrev pub IsUnput : BuildingError → Type 0
   IsUnput (Build fault) = HasNoFile (Build fault)
-  IsUnput (File path) = HasNoFile (File path)
+  IsUnput (File path reason) = HasNoFile (File path reason)
   IsUnput Write = PlacesBoth options bundle placed now_placed program × IsBegun (report_line report) before after

@@ -3,7 +3,8 @@
 ghost use Rattle.std.specs.Prelude.{◌≡◌};
 ghost use Rattle.cfarm_build_folder.specs.Answers.{status_of};
 
-use cfarm_build_faults::BuildError;
+use cfarm_build_faults::{BuildError, ToldFault};
+use cfarm_files::Reason;
 use std::fmt;
 
 /// Why a build is not done. Its text is the line that a user is shown.
@@ -11,8 +12,8 @@ use std::fmt;
 pub enum BuildingError {
     /// The text is refused, or the farm builds nothing, or there was no memory.
     Build(BuildError),
-    /// The file of this path cannot be opened, made or written.
-    File(String),
+    /// The file of this path cannot be opened, made or written, for this reason.
+    File(String, Reason),
     /// The report could not be written. The program was.
     Write,
 }
@@ -24,7 +25,7 @@ impl BuildingError {
     {
         match self {
             BuildingError::Build(fault) => fault.status(),
-            BuildingError::File(_) => 2,
+            BuildingError::File(_, _) => 2,
             BuildingError::Write => 4,
         }
     }
@@ -38,8 +39,14 @@ impl fmt::Display for BuildingError {
 
     fn fmt<W: fmt::Write>(&self, f: &mut fmt::Formatter<W>) -> fmt::Result {
         match self {
-            BuildingError::Build(fault) => write!(f, "{fault}"),
-            BuildingError::File(path) => write!(f, "file {path}"),
+            BuildingError::Build(fault) => {
+                let told = ToldFault(fault);
+                write!(f, "{told}")
+            }
+            BuildingError::File(path, reason) => {
+                let tail = reason.tail();
+                write!(f, "file {path}{tail}")
+            }
             BuildingError::Write => write!(f, "write 701"),
         }
     }

@@ -5,7 +5,7 @@ ghost use Rattle.std.specs.Prelude.{◌≡◌, [], false, string_bytes};
 use crate::error::BuildingError;
 use acceptor_log_form::LogError;
 use cfarm_build_faults::{BuildError, OpenFault, SourceFault};
-use cfarm_files::Files;
+use cfarm_files::{Files, Reason};
 use cfarm_hints::{TextError, difference_of, explained};
 use cfarm_options::BuildOptions;
 use std::alloc::{AllocError, Global};
@@ -36,6 +36,11 @@ fn of_journal<F: Files>(
     )
 }
 
+/// Whether that is the lock, which another one may have.
+fn is_held(path: &str, reason: Reason) -> bool {
+    path.ends_with("cfarm.lock") && (reason == Reason::Held || reason == Reason::Unsaid)
+}
+
 /// The hint at a build that is not done.
 fn said_of_build<F: Files>(
     alloc: Global,
@@ -48,7 +53,7 @@ fn said_of_build<F: Files>(
         BuildingError::Build(BuildError::Disks(OpenFault::Journal(node, LogError::OtherSource))) =>
             { of_journal(alloc, options, text, *node, files) }
         BuildingError::Build(BuildError::Undecided) => TURNS.to_string(alloc),
-        BuildingError::File(path) if path.as_str().ends_with("cfarm.lock") => LOCKED.to_string(
+        BuildingError::File(path, reason) if is_held(path.as_str(), *reason) => LOCKED.to_string(
             alloc,
         ),
         _ => Ok(String::new(alloc)),

@@ -30,6 +30,6 @@ pub fn locked<F: Files>(
     match files.lock(folder, &path) {
         Ok(lock) => Ok(lock),
         Err(FileFault::NoMemory) => Err(BuildingError::Build(BuildError::NoMemory)),
-        Err(FileFault::Refused) => Err(BuildingError::File(path)),
+        Err(FileFault::Refused(reason)) => Err(BuildingError::File(path, reason)),
     }
 }

@@ -34,8 +34,8 @@ fn told_of(alloc: Global, fault: DiskFault, path: &str, old_path: &str) -> Build
 {
     match fault {
         DiskFault::NoMemory => BuildingError::Build(BuildError::NoMemory),
-        DiskFault::Old => refused_at(alloc, old_path),
-        DiskFault::New => refused_at(alloc, path),
+        DiskFault::Old(reason) => refused_at(alloc, old_path, reason),
+        DiskFault::New(reason) => refused_at(alloc, path, reason),
     }
 }
 

@@ -12,7 +12,7 @@ ghost use Rattle.cfarm_build_folder.specs.Putting.{IsUnbundled};
 
 use crate::error::BuildingError;
 use cfarm_build_faults::BuildError;
-use cfarm_files::{FileFault, Files};
+use cfarm_files::{FileFault, Files, Reason};
 use cfarm_options::{BuildOptions, linked_path};
 use std::alloc::Global;
 
@@ -22,7 +22,7 @@ fn told_at(fault: FileFault, path: String) -> BuildingError
 {
     match fault {
         FileFault::NoMemory => BuildingError::Build(BuildError::NoMemory),
-        FileFault::Refused => BuildingError::File(path),
+        FileFault::Refused(reason) => BuildingError::File(path, reason),
     }
 }
 
@@ -49,12 +49,12 @@ fn place<F: Files>(
     }
 }
 
-/// That the file of this path is refused.
-pub(crate) fn refused_at(alloc: Global, path: &str) -> BuildingError
+/// That the file of this path is refused, for this reason.
+pub(crate) fn refused_at(alloc: Global, path: &str, reason: Reason) -> BuildingError
     ensures { IsRefusedAt path.now result }
 {
     match path.to_string(alloc) {
-        Ok(path) => BuildingError::File(path),
+        Ok(path) => BuildingError::File(path, reason),
         Err(_) => BuildingError::Build(BuildError::NoMemory),
     }
 }
@@ -74,7 +74,7 @@ fn place_bundle<F: Files>(
     match files.put_at(path, bundle) {
         Ok(()) => Ok(()),
         Err(FileFault::NoMemory) => Err(BuildingError::Build(BuildError::NoMemory)),
-        Err(FileFault::Refused) => Err(refused_at(alloc, path)),
+        Err(FileFault::Refused(reason)) => Err(refused_at(alloc, path, reason)),
     }
 }
 

@@ -1,6 +1,7 @@
 -- What is found, step by step.
 use Rattle.std.proofs.Common.{◌≡◌, ◌≤◌, List, ℕ, Option, None, Some, length, refl}
 use Rattle.std.specs.Arc.{arc_value}
+use Rattle.std.specs.Io.KnownBytes.{Keeps}
 use Rattle.sha2.specs.Sha256.{sha256}
 use Rattle.lang_base.specs.Keeps.{Keeps as KeepsMeaning}
 use Rattle.c_syntax.specs.Trees.{UnitTree}
@@ -13,7 +14,7 @@ use Rattle.rtl_language.specs.Meaning as rtl
 use Rattle.rtlgen_definition.specs.Gen.{gen}
 use Rattle.farm_nodes_source.specs.declared.source.Source.{Source}
 use Rattle.cfarm_build_faults.specs.Prepared.{IsSourceOf}
-use Rattle.cfarm_files.specs.Placing.{Placed, KeepsFolder, Makes}
+use Rattle.cfarm_files.specs.Placing.{Placed, KeepsFolder}
 
 -- a text that was made ready
 pub ready : (text : List ℕ) (s : Source) → (u : UnitTree) × IsAccepted text u × IsProgramOf u s.program
@@ -35,3 +36,8 @@ ready text s accepted translated keeps names count digest = record {
 pub keeps_same : (o : Option (List Placed)) → KeepsFolder o o
 keeps_same None = tt
 keeps_same (Some placed) = refl
+
+-- known bytes are kept where nothing is written
+pub keeps_bytes : (o : Option (List ℕ)) → Keeps o o
+keeps_bytes None = tt
+keeps_bytes (Some bytes) = refl

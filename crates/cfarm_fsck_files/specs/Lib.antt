@@ -1,4 +1,5 @@
 pub mod Looking
+pub mod Lost
 pub mod Reading
 pub mod Saying
 pub use Rattle.cfarm_build_faults.specs.Numbers

@@ -1,12 +1,12 @@
 -- What `fsck` comes to, on the bytes of its text: what it made and wrote, and what it answers.
-use Rattle.std.specs.Prelude.{◌≡◌, ◌⊎◌, ℕ, List}
+use Rattle.std.specs.Prelude.{◌≡◌, ◌⊎◌, ℕ, List, [], ◌∷◌}
 use Rattle.std.specs.Arc.{arc_value}
 use Rattle.std.specs.String.{string_bytes}
 use Rattle.paxos_core_world.specs.Quorum.{Sizes}
 use Rattle.farm_nodes_source.specs.Refused.{IsUnprepared}
 use Rattle.farm_nodes_source.specs.declared.fault.SourceFault.{SourceFault}
 use Rattle.farm_nodes_source.specs.declared.source.Source.{Source}
-use Rattle.cfarm_build_faults.specs.Lines.{build_line}
+use Rattle.cfarm_build_faults.specs.Lines.{told_line}
 use Rattle.cfarm_build_faults.specs.Prepared.{IsSourceOf}
 use Rattle.cfarm_build_faults.specs.Statuses.{status_of}
 use Rattle.cfarm_build_faults.specs.declared.error.BuildError.{BuildError}
@@ -23,13 +23,14 @@ use Rattle.cfarm_fsck.specs.declared.error.FsckError.TheVariants.{Disks, NoMemor
 use Rattle.cfarm_fsck_journals.specs.declared.files.NodeFiles.{NodeFiles}
 use Rattle.cfarm_program_status.specs.Reading.{Coming, unread}
 use Rattle.cfarm_program_status.specs.Telling.{Answer, no_memory, quiet, told, unwritten}
+use Rattle.cfarm_fsck_files.specs.Lost.{lost_lines}
 use Rattle.cfarm_fsck_files.specs.Reading.{AreRead, HasUnread}
 use Rattle.cfarm_fsck_files.specs.declared.unread.Unread.{Unread}
 use Rattle.cfarm_fsck_files.specs.declared.unread.Unread.TheVariants as unread_by
 
 -- what `build` answers where it is refused so
 abbrev pub build_fault : BuildError → Answer
-build_fault fault = told (status_of fault) (build_line fault)
+build_fault fault = told (status_of fault) (told_line fault)
 
 -- a folder is refused as `build` would refuse it
 abbrev pub fsck_fault : FsckError → Answer
@@ -39,12 +40,18 @@ fsck_fault Write = unwritten
 
 abbrev pub unread_fault : Unread → Answer
 unread_fault unread_by.NoMemory = no_memory
-unread_fault (unread_by.File path) = unread (string_bytes path) file.Refused
+unread_fault (unread_by.File path reason) = unread (string_bytes path) (file.Refused reason)
 
--- what stands in these files is told, or why not
+-- these lines are told, where there are some, and nothing is wrong
+abbrev pub with_lines : List ℕ → Answer
+with_lines [] = quiet
+with_lines (c ∷ text) = told 0 (c ∷ text)
+
+-- what stands in these files is told, with the nodes that have no journal where others have records; or why not
 abbrev pub Found : Sizes → Source → List NodeFiles → Coming
 Found q source files answer before after =
-    (fsck.IsTold q source.digest (arc_value source.translated) files before after × (answer ≡ quiet))
+    (fsck.IsTold q source.digest (arc_value source.translated) files before after
+    × (answer ≡ with_lines (lost_lines files)))
     ⊎ ((fault : FsckError) × fsck.IsNotTold q source.digest (arc_value source.translated) files fault before after × (answer ≡ fsck_fault fault))
 
 module _ {F D L : Type 0} (over : filing.Ghosts F D L) (folder : List ℕ) (q : Sizes) where

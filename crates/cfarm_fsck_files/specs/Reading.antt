@@ -17,7 +17,7 @@ module _ {F D L : Type 0} (over : filing.Ghosts F D L) (lock : L) where
   -- the file of this path is there and is refused; that memory was says nothing
   abbrev pub IsUnreadAt : List ℕ → Unread → Type 0
   IsUnreadAt path NoMemory = Unit {0}
-  IsUnreadAt path (File told) = (string_bytes told ≡ path) × IsRefusedThere (over.held lock path) (over.held_there lock path)
+  IsUnreadAt path (File told reason) = (string_bytes told ≡ path) × IsRefusedThere (over.held lock path) (over.held_there lock path) reason
 
   module _ (folder : List ℕ) where
     -- so it is of both files of this node

@@ -3,6 +3,7 @@
 #![tactic(auto)]
 
 mod looking;
+mod lost;
 mod reading;
 mod unread;
 

@@ -2,16 +2,19 @@
 
 ghost use Rattle.std.specs.Prelude.{◌≡◌, ◌≤◌, length};
 ghost use Rattle.std.specs.Arc.{arc_value};
-ghost use Rattle.cfarm_fsck_files.specs.Looking.{Found, OfFiles, OfLocked, build_fault, fsck_fault, unread_fault};
-ghost use Rattle.cfarm_fsck_files.specs.Saying.{LookedOver, Tells};
+ghost use Rattle.cfarm_fsck_files.specs.Looking.{Found, OfFiles, OfLocked, build_fault, fsck_fault, unread_fault, with_lines};
+ghost use Rattle.cfarm_fsck_files.specs.Saying.{LookedOver};
+ghost use Rattle.cfarm_program_status.specs.Reading.{Says};
+ghost use Rattle.cfarm_program_status.specs.Trace.{shown};
 ghost use Rattle.cfarm_files.specs.Locking.{CoversFolder, lock_path};
 ghost use Rattle.cfarm_files.specs.Placing.{Makes};
 ghost use Rattle.cfarm_files.specs.Using.{UsesNone};
 ghost use Rattle.cfarm_program_status.specs.Telling.{IsToldAs};
 
+use crate::lost::lost_lines;
 use crate::reading::read_files;
 use crate::unread::Unread;
-use cfarm_build_faults::BuildError;
+use cfarm_build_faults::{BuildError, ToldFault};
 use cfarm_files::{FileFault, Files, lock_path};
 use cfarm_fsck::{FsckError, fsck};
 use cfarm_fsck_journals::NodeFiles;
@@ -32,7 +35,7 @@ fn tell_build<E: ErrorLines>(err: &mut E, fault: BuildError) -> u8
     ensures table { result ≤ 7 }
 {
     let status = fault.status();
-    tell(err, fault, status)
+    tell(err, ToldFault(&fault), status)
 }
 
 /// Tells why a folder is not told.
@@ -54,11 +57,22 @@ fn tell_unread_file<E: ErrorLines>(err: &mut E, fault: &Unread) -> u8
 {
     match fault {
         Unread::NoMemory => tell_no_memory(err),
-        Unread::File(path) => tell_unread(err, path.as_str(), FileFault::Refused),
+        Unread::File(path, reason) => tell_unread(err, path.as_str(), FileFault::Refused(*reason)),
     }
 }
 
-/// Tells what stands in the files.
+/// Tells these lines, where there are some.
+fn tell_lines<E: ErrorLines>(err: &mut E, lines: &str) -> u8
+    ensures told { IsToldAs (with_lines lines.now) result (E.contents err.old) (E.contents err.new) }
+    ensures table { result ≤ 7 }
+{
+    match lines.as_bytes() {
+        [] => 0,
+        [_first, _rest @ ..] => tell(err, lines, 0),
+    }
+}
+
+/// Tells what stands in the files, and which nodes have no journal.
 fn tell_found<H: Naming, R: Threads + Wait + Sync, W: Write, E: ErrorLines>(
     rt: &R,
     alloc: Global,
@@ -71,12 +85,15 @@ fn tell_found<H: Naming, R: Threads + Wait + Sync, W: Write, E: ErrorLines>(
 ) -> u8
     requires size { length found.now ≡ quorums.nodes }
     requires functions { length (arc_value source.now.translated).functions ≤ 64 }
-    ensures does { Tells W.contents E.contents (Found quorums source.now found.now) result out err }
+    ensures does { Says W.contents E.contents (Found quorums source.now found.now) (shown result out err) }
     ensures table { result ≤ 7 }
 {
     let begun = &*source.translated;
+    let Ok(lines) = lost_lines(alloc, found) else {
+        return tell_no_memory(err);
+    };
     match fsck::<H, R, Paced<W>>(rt, alloc, hall, &source.digest, begun, quorums, found, out) {
-        Ok(()) => 0,
+        Ok(()) => tell_lines(err, lines.as_str()),
         Err(fault) => tell_error(err, fault),
     }
 }
@@ -96,7 +113,7 @@ fn tell_files<H: Naming, R: Threads + Wait + Sync, F: Files, W: Write, E: ErrorL
 ) -> u8
     requires locked { CoversFolder (F.covers lock.now) folder.now }
     requires functions { length (arc_value source.now.translated).functions ≤ 64 }
-    ensures does { Tells W.contents E.contents (OfFiles F.Files folder.now quorums lock.now source.now) result out err }
+    ensures does { Says W.contents E.contents (OfFiles F.Files folder.now quorums lock.now source.now) (shown result out err) }
     ensures table { result ≤ 7 }
 {
     match read_files(alloc, folder, usize::from(quorums.nodes()), files, lock) {
@@ -119,7 +136,7 @@ fn tell_locked<H: Naming, R: Threads + Wait + Sync, F: Files, W: Write, E: Error
 ) -> u8
     requires leave { F.may_lock files.now }
     requires functions { length (arc_value source.now.translated).functions ≤ 64 }
-    ensures does { Tells W.contents E.contents (OfLocked F.Files folder.now quorums source.now) result out err }
+    ensures does { Says W.contents E.contents (OfLocked F.Files folder.now quorums source.now) (shown result out err) }
     ensures made { Makes (F.placed files.old) (F.placed files.new) (λ path. path ≡ lock_path folder.now) }
     ensures unused { UsesNone (F.used files.old) (F.used files.new) }
     ensures table { result ≤ 7 }
@@ -151,7 +168,7 @@ pub fn look_through<H: Naming, R: Threads + Wait + Sync, F: Files, W: Write, E: 
     err: &mut E,
 ) -> u8
     requires leave { F.may_lock files.now }
-    ensures does { Tells W.contents E.contents (LookedOver F.Files files folder.now quorums text.now) result out err }
+    ensures does { Says W.contents E.contents (LookedOver F.Files files folder.now quorums text.now) (shown result out err) }
     ensures table { result ≤ 7 }
 {
     match prepare(alloc, text) {

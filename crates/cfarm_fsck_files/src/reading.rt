@@ -26,7 +26,7 @@ fn read_at<F: Files>(
         Ok(Some(bytes)) => Ok(bytes),
         Ok(None) => Ok(Vec::new(alloc)),
         Err(FileFault::NoMemory) => Err(Unread::NoMemory),
-        Err(FileFault::Refused) => Err(Unread::File(path)),
+        Err(FileFault::Refused(reason)) => Err(Unread::File(path, reason)),
     }
 }
 

@@ -3,3 +3,4 @@ pub mod Paths
 pub mod Quorums
 pub mod Sizes
 pub mod Lines
+pub mod Holding

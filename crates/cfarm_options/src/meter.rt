@@ -1,6 +1,7 @@
 //! Where a user sees how far a build is.
 
 use crate::ignored::Ignored;
+use crate::note::Note;
 
 /// Where a user sees how far a build is, while it runs. Nothing that is built depends on it.
 pub trait Meter {
@@ -19,4 +20,10 @@ pub trait Meter {
     /// This file of an offer was not used. It is told at the end of a build, behind `clear`, for each such file. Nothing is shown where
     /// that is not said.
     fn ignored(&mut self, _told: Ignored<'_>) {}
+
+    /// This is to be told of the folder, once the build has ended.
+    fn note(&mut self, _told: Note) {}
+
+    /// The build has ended, and its line, if it has one, is told: what was noted is told behind that.
+    fn ended(&mut self) {}
 }

@@ -1,6 +1,6 @@
 //! Files in memory.
 
-use cfarm_files::{DiskFault, FileFault, Files};
+use cfarm_files::{DiskFault, FileFault, Files, Reason};
 use durable_pair_memory::MemoryPair;
 use std::alloc::Global;
 use worked_row_files::bytes_of;
@@ -39,7 +39,7 @@ impl<'a> Given<'a> {
                 };
             }
         }
-        Err(FileFault::Refused)
+        Err(FileFault::Refused(Reason::Unsaid))
     }
 
     pub fn of(alloc: Global, text: &'a [u8]) -> Given<'a> {
@@ -118,7 +118,7 @@ fn parts_spelled(text: &str) -> (&str, &str) {
 fn disk_spelled(alloc: Global, text: &str) -> Result<MemoryPair, DiskFault> {
     let (old, new) = parts_spelled(text);
     let (Some(bytes), Some(old_bytes)) = (bytes_of(alloc, new), bytes_of(alloc, old)) else {
-        return Err(DiskFault::New);
+        return Err(DiskFault::New(Reason::Unsaid));
     };
     disk_of(alloc, CALLS, 0, &bytes, &old_bytes)
 }
@@ -126,9 +126,9 @@ fn disk_spelled(alloc: Global, text: &str) -> Result<MemoryPair, DiskFault> {
 /// Why there are no disks in a folder.
 fn fault_in(folder: &str, name: &str) -> Option<DiskFault> {
     match folder {
-        "missing" => Some(DiskFault::New),
-        "behind" if name == "node1.cf2" => Some(DiskFault::New),
-        "barred" if name == "node1.cf2" => Some(DiskFault::Old),
+        "missing" => Some(DiskFault::New(Reason::Unsaid)),
+        "behind" if name == "node1.cf2" => Some(DiskFault::New(Reason::Unsaid)),
+        "barred" if name == "node1.cf2" => Some(DiskFault::Old(Reason::Unsaid)),
         "scarce" => Some(DiskFault::NoMemory),
         _ => None,
     }
@@ -153,15 +153,15 @@ fn file_spelled(alloc: Global, text: &str, name: &str) -> Result<Option<Vec<u8>>
     match bytes_of(alloc, hex) {
         Some(bytes) if bytes.is_empty() => Ok(None),
         Some(bytes) => Ok(Some(bytes)),
-        None => Err(FileFault::Refused),
+        None => Err(FileFault::Refused(Reason::Unsaid)),
     }
 }
 
 /// The file of a folder, where it is there.
 fn file_in(alloc: Global, folder: &str, name: &str) -> Result<Option<Vec<u8>>, FileFault> {
     match folder {
-        "behind" if name == "node1.cf2" => Err(FileFault::Refused),
-        "barred" if name == "node1.cfj" => Err(FileFault::Refused),
+        "behind" if name == "node1.cf2" => Err(FileFault::Refused(Reason::Unsaid)),
+        "barred" if name == "node1.cfj" => Err(FileFault::Refused(Reason::Unsaid)),
         "scarce" => Err(FileFault::NoMemory),
         _ => file_spelled(alloc, spelled(folder, name), name),
     }
@@ -202,7 +202,7 @@ impl Files for Given<'_> {
 
     fn lock(&mut self, folder: &str, _path: &str) -> Result<Held, FileFault> {
         match folder {
-            "missing" | "busy" => Err(FileFault::Refused),
+            "missing" | "busy" => Err(FileFault::Refused(Reason::Unsaid)),
             "locked" => Err(FileFault::NoMemory),
             _ => Ok(Held),
         }
@@ -237,6 +237,10 @@ impl Files for Given<'_> {
         !path.starts_with("pipe/")
     }
 
+    fn is_found(&self, path: &str) -> bool {
+        path != "none"
+    }
+
     fn disk(&mut self, _lock: &Held, path: &str, _old_path: &str) -> Result<MemoryPair, DiskFault> {
         let (folder, name) = path.rsplit_once('/').unwrap_or(("", path));
         let Ok(noted) = path.to_string(self.alloc) else {
@@ -268,7 +272,7 @@ impl Files for Given<'_> {
 
     fn put_at(&mut self, path: &str, bytes: &[u8]) -> Result<(), FileFault> {
         if path.starts_with("full/") {
-            return Err(FileFault::Refused);
+            return Err(FileFault::Refused(Reason::Unsaid));
         }
         if path.starts_with("tight/") {
             return Err(FileFault::NoMemory);

@@ -1,15 +1,18 @@
 //! A meter that shows no progress.
 
-use cfarm_options::{Ignored, Meter};
+use cfarm_options::{Ignored, Meter, Note};
 use std::alloc::Global;
 
-/// Counts how often it was told and cleared, and keeps the lines of files that were not used.
+/// Counts how often it was told and cleared, and keeps the lines of files that were not used, and of the folder.
 #[derive(Drop)]
 pub struct Quiet {
     pub told: u64,
     pub cleared: u64,
     pub alloc: Global,
     pub ignored: Vec<u8>,
+    pub noted: Vec<u8>,
+    /// What was noted is told.
+    pub has_ended: bool,
 }
 
 impl Meter for Quiet {
@@ -29,5 +32,15 @@ impl Meter for Quiet {
         if let Ok(line) = format!(in self.alloc; "{told}\n") {
             let _ = self.ignored.extend_from_slice(line.as_bytes());
         }
+    }
+
+    fn note(&mut self, told: Note) {
+        if let Ok(line) = format!(in self.alloc; "{told}\n") {
+            let _ = self.noted.extend_from_slice(line.as_bytes());
+        }
+    }
+
+    fn ended(&mut self) {
+        self.has_ended = true;
     }
 }

@@ -1,7 +1,15 @@
 -- Why `tell_found` meets its clause `does`.
-use Rattle.std.proofs.Common.{refl, inl}
-use Rattle.cfarm_program_status.specs.Telling.{quiet}
+use Rattle.std.proofs.Common.{ap, refl, inl, inr, ◌∙◌}
+use Rattle.cfarm_fsck.specs.declared.error.FsckError.TheVariants.{NoMemory}
+use Rattle.cfarm_program_status.specs.Telling.{no_memory}
+use Rattle.cfarm_fsck_files.specs.Looking.{with_lines}
+use Rattle.cfarm_fsck_files.proofs.Ready.{keeps_bytes}
 use Rattle.cfarm_fsck_files.proofs.looking.tell_found.Goals as goal
 
-pub returns-in-Ok-clause-does : goal.returns-in-Ok-clause-does
-returns-in-Ok-clause-does g c = (quiet, inl (rw c.deref-begun.ensures at c.in-Ok.ensures, refl), (refl, refl))
+pub returns-in_default-clause-does : goal.returns-in_default-clause-does
+returns-in_default-clause-does g c = (no_memory, inr (NoMemory, inl (keeps_bytes _), refl), c.tell_no_memory.ensures.told)
+
+pub returns-in-Ok-fsck-clause-does : goal.returns-in-Ok-fsck-clause-does
+returns-in-Ok-fsck-clause-does g c =
+    let lines = ap with_lines (c.as_str.ensures.value ∙ c.in-Ok.ensures) in
+    (_, inl (rw c.deref-begun.ensures at c.in-Ok-fsck.ensures, lines), c.tell_lines.ensures.told)

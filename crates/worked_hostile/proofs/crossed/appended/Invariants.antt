@@ -3,4 +3,4 @@ use Rattle.worked_hostile.proofs.crossed.appended.Given as goal
 
 -- the journal may be asked
 abbrev pub invariant-loop-entry : goal.invariant-loop-entry
-invariant-loop-entry g l = IsSound g.D.Disk.is_honest g.D.Disk.seen g.D.Disk.may_leave l.log
+invariant-loop-entry g l = IsSound g.D.Disk l.log
