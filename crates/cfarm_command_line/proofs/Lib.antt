@@ -1,1 +1,2 @@
 mod Tasks
+pub mod Bounds

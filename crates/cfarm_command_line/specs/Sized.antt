@@ -1,7 +1,7 @@
 -- The options that say how many nodes a farm has, and of what sizes its quorums are.
 use Rattle.clap.specs.Words.{App, with_rule}
-use Rattle.cfarm_command_line_others.specs.Words.{accept_rule, nodes_rule, promise_rule}
-use Rattle.cfarm_command_line_others.specs.declared.choices.Choices.{Choices}
+use Rattle.cfarm_command_line_tasks.specs.Words.{accept_rule, nodes_rule, promise_rule}
+use Rattle.cfarm_command_line_tasks.specs.declared.choices.Choices.{Choices}
 
 -- the command with them
 abbrev pub with_sizes : App → Choices → App

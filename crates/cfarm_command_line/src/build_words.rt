@@ -3,11 +3,12 @@
 ghost use Rattle.std.specs.Prelude.{◌≡◌, Some, codes, IfOk, IfSome, IsNone};
 ghost use Rattle.clap.specs.Words.{found_of, first_of, first_value, rows_of};
 ghost use Rattle.cfarm_options.specs.declared.options.BuildOptions.{BuildOptions};
-ghost use Rattle.cfarm_command_line_others.specs.Words.{AreOptions, IsArgument, IsCommand, IsNoWord, IsPath, Reads, build_app};
-ghost use Rattle.cfarm_command_line_others.specs.Words.{optimise_rule, optimise_word, path_rule, seed_rule, turns_rule};
+ghost use Rattle.cfarm_command_line_tasks.specs.Words.{AreOptions, IsArgument, IsCommand, IsNoWord, IsPath, Reads, build_app};
+ghost use Rattle.cfarm_command_line_tasks.specs.Words.{optimise_rule, optimise_word, path_rule, seed_rule, turns_rule};
 
 use crate::size_words::{ACCEPT, FOLDER, PROMISE, nodes_of, size_of, sized};
-use cfarm_command_line_others::{Choices, file, needed, with_argument};
+use cfarm_command_line_others::{file, needed, with_argument};
+use cfarm_command_line_tasks::Choices;
 use cfarm_options::{BuildOptions, Optimise};
 use clap::builder::ValueParser;
 use clap::{Arg, ArgMatches, Command};

@@ -3,17 +3,22 @@
 ghost use Rattle.std.specs.Prelude.{◌≡◌, Some, map, codes, string_bytes, IfOk, IfErr, IfSome, IsNone};
 ghost use Rattle.clap.specs.Words.{FailsBy, fault_of, first_value, found_of, rows_of};
 ghost use Rattle.clap.specs.Words.{subcommand_rows_of};
-ghost use Rattle.cfarm_command_line_others.specs.declared.task.Task.{Task};
-ghost use Rattle.cfarm_command_line_others.specs.Words.{AsksFor, AsksNothing, AsksNothingBy, IsAskedBy, IsRefusedRightly, IsTask};
-ghost use Rattle.cfarm_command_line_others.specs.Words.{IsCommand, farm, statuses_app, top_app};
+ghost use Rattle.cfarm_command_line_tasks.specs.declared.task.Task.{Task};
+ghost use Rattle.cfarm_command_line_tasks.specs.Words.{Answers, AreRefusedRightly, AsksFor, AsksNothing, AsksNothingBy};
+ghost use Rattle.cfarm_command_line_tasks.specs.Words.{IsAskedBy, IsRefusedRightly, IsTask, IsWrong};
+ghost use Rattle.cfarm_command_line_tasks.specs.Words.{IsCommand, farm, statuses_app, top_app};
+ghost use Rattle.cfarm_command_line.specs.Told.{IsTold};
 
 use crate::build_words::{build, options_of};
 use crate::fsck_words::{fsck, fsck_options_of};
+use crate::interpret_words::{depth_of, interpret};
+use crate::native_words::{native, native_options_of};
 use cfarm_command_line_others::{
-    Asked, Choices, FILE, Task, check, depth_of, emit, emit_seed_of, emitted_of, exec, expected_of,
-    format_of, interpret, judge, limit_of, list, offer_of, paths_of, settle, show, showing_of, sim,
-    verify, with_command,
+    FILE, check, emit, emit_seed_of, emitted_of, exec, expected_of, explaining_of, format_of,
+    judge, limit_of, list, offer_of, paths_of, settle, show, showing_of, sim, verify, with_command,
 };
+use cfarm_command_line_tasks::{Asked, Bounds, Choices, Task};
+use clap::error::ErrorKind;
 use clap::{ArgMatches, Command};
 use std::alloc::{AllocError, Global};
 
@@ -28,11 +33,12 @@ const STATUSES: &str =
   1  the file is refused: `refused NUMBER Name at OFFSET` for a text, `refused NUMBER Name` for
      bytes, `refused 240 TooManyNodes in NAME` for a function that is too large; of a bundle or an
      offer also in which file or function, in which pass and at which node
-  2  the command line, in words; `quorums N Q1 Q2`, which need not meet; `file PATH`;
-     `schedule LINE`
+  2  the command line, in words; `quorums N Q1 Q2`, which need not meet; `prefix PREFIX`, which is
+     no C name; `file PATH`; `schedule LINE`
   3  undecided: `undecided`, for want of turns; the same build again goes on from its journals
-  4  a journal: `journal NUMBER Name node I` or `room R`; `link NUMBER Name in FUNCTION`; the output
-     could not be written: `write 701`, or standard error could not, and then nothing is told
+  4  a journal: `journal NUMBER Name node I` or `room R` (from 0: of each function its four passes,
+     `NAME pass K` of fsck); `link NUMBER Name in FUNCTION`; the output could not be written:
+     `write 701`, or standard error could not, and then nothing is told
   5  the program that was run went wrong: `wrong`; with --expect, it did not end with R
   6  the bound was reached: `running`
   7  no memory, or no thread could be made: `memory`
@@ -48,7 +54,7 @@ Numbers, by what is refused:
   240 TooManyNodes                                                                          size
   301 Refused       an offer that its pass does not accept
   401 Device        402 NotAJournal   403 BadRecord     404 OtherSource   405 Stopped       journals
-  406 Full          521 OtherRecords  522 CellRefused
+  406 Full          510 Unsettled     521 OtherRecords  522 CellRefused
   601 Missing       602 Unchained     603 Names         604 OtherProgram                    links
 ";
 
@@ -65,14 +71,18 @@ fn bare<'a>(alloc: Global) -> Command<'a>
         .arg_required_else_help(true)
 }
 
-/// The commands, with their help. Options offer these choices.
-fn command<'a>(alloc: Global, choices: Choices<'a>) -> Result<Command<'a>, AllocError>
-    ensures { IfOk result (IsCommand (farm choices.entry)) }
+/// The commands, with their help. Bounds of runs are said so, and options offer these choices.
+fn command<'a>(
+    alloc: Global,
+    bounds: Bounds,
+    choices: Choices<'a>,
+) -> Result<Command<'a>, AllocError>
+    ensures { IfOk result (IsCommand (farm bounds choices.entry)) }
 {
     let checking = with_command(Ok(bare(alloc)), check(alloc, choices));
-    let interpreting = with_command(checking, interpret(alloc));
+    let interpreting = with_command(checking, interpret(alloc, bounds, choices));
     let building = with_command(interpreting, build(alloc, choices));
-    let executing = with_command(building, exec(alloc));
+    let executing = with_command(building, exec(alloc, bounds, choices));
     let settling = with_command(executing, settle(alloc));
     let playing = with_command(settling, sim(alloc));
     let showing = with_command(playing, show(alloc));
@@ -81,7 +91,8 @@ fn command<'a>(alloc: Global, choices: Choices<'a>) -> Result<Command<'a>, Alloc
     let verifying = with_command(looking, verify(alloc));
     let emitting = with_command(verifying, emit(alloc, choices));
     let judging = with_command(emitting, judge(alloc));
-    with_command(judging, statuses(alloc))
+    let translating = with_command(judging, native(alloc));
+    with_command(translating, statuses(alloc))
 }
 
 /// What `help statuses` shows. Alone it is a mistake, and shows the same.
@@ -107,12 +118,18 @@ fn task_of<'a>(name: &str, words: &ArgMatches<'a>) -> Option<Task<'a>>
             Some(format) => Some(Task::Check(format)),
             None => None,
         },
-        "interpret" => Some(Task::Interpret(depth_of(words))),
+        "interpret" => match explaining_of(words) {
+            Some(explaining) => Some(Task::Interpret(depth_of(words), explaining)),
+            None => None,
+        },
         "build" => match options_of(words) {
             Some(options) => Some(Task::Build(options)),
             None => None,
         },
-        "exec" => Some(Task::Exec(limit_of(words), expected_of(words))),
+        "exec" => match explaining_of(words) {
+            Some(explaining) => Some(Task::Exec(limit_of(words), expected_of(words), explaining)),
+            None => None,
+        },
         "settle" => Some(Task::Settle),
         "sim" => match showing_of(words) {
             Some(showing) => Some(Task::Simulate(showing)),
@@ -136,6 +153,7 @@ fn task_of<'a>(name: &str, words: &ArgMatches<'a>) -> Option<Task<'a>>
             Some(offer) => Some(Task::Judge(offer)),
             None => None,
         },
+        "native" => Some(Task::Native(native_options_of(words))),
         _ => None,
     }
 }
@@ -166,18 +184,56 @@ fn asked_of<'a>(matches: &ArgMatches<'a>) -> Option<Asked<'a>>
     }
 }
 
+/// What the words ask for, where bounds of runs are said so. Options offer these choices.
+fn asked_with<'a>(
+    alloc: Global,
+    words: &'a [String],
+    bounds: Bounds,
+    choices: Choices<'a>,
+) -> Result<Option<Asked<'a>>, clap::Error>
+    ensures asks { IfOk result (λ asked. IfSome asked (AsksFor bounds choices.entry (map string_bytes words.entry.now))) }
+    ensures none { IfOk result (λ asked. IsNone asked → AsksNothing bounds choices.entry (map string_bytes words.entry.now)) }
+    ensures right { FailsBy (fault_of (farm bounds choices.entry) (map string_bytes words.entry.now)) result }
+    ensures refused { IfErr result (λ fault. IsRefusedRightly bounds choices.entry (map string_bytes words.entry.now) fault) }
+{
+    let command = command(alloc, bounds, choices)?;
+    let matches = command.try_get_matches_from(words)?;
+    Ok(asked_of(&matches))
+}
+
+/// Which of two answers is told: that to the words with numbers for bounds, or that to them with the word for none. The second is where
+/// the first lies at such a word alone, and where memory was refused.
+fn told_of(counted: clap::Error, unbounded: clap::Error) -> clap::Error
+    ensures { IsTold counted unbounded result }
+{
+    match unbounded.kind() {
+        ErrorKind::OutOfMemory => unbounded,
+        ErrorKind::InvalidValue => counted,
+        _ => match counted.kind() {
+            ErrorKind::ValueValidation => unbounded,
+            _ => counted,
+        },
+    }
+}
+
 /// What the words ask for. Options offer these choices.
+#[tactic(auto, using(crate::proofs::Bounds::answers_by, crate::proofs::Bounds::wrong_by, crate::proofs::Bounds::refused_by))]
 pub fn asked_for<'a>(
     alloc: Global,
     words: &'a [String],
     choices: Choices<'a>,
 ) -> Result<Option<Asked<'a>>, clap::Error>
-    ensures asks { IfOk result (λ asked. IfSome asked (AsksFor choices.entry (map string_bytes words.entry.now))) }
-    ensures none { IfOk result (λ asked. IsNone asked → AsksNothing choices.entry (map string_bytes words.entry.now)) }
-    ensures right { FailsBy (fault_of (farm choices.entry) (map string_bytes words.entry.now)) result }
-    ensures refused { IfErr result (λ fault. IsRefusedRightly choices.entry (map string_bytes words.entry.now) fault) }
+    // They ask for it, and nothing is wrong with them, where bounds are said by a number or by the word for none.
+    ensures answers { IfOk result (λ asked. Answers choices.entry (map string_bytes words.entry.now) asked) }
+    // What is told is wrong with them; words that can be taken are refused where memory is, alone.
+    ensures wrong { IfErr result (λ fault. IsWrong choices.entry (map string_bytes words.entry.now) fault) }
+    ensures refused { IfErr result (λ fault. AreRefusedRightly choices.entry (map string_bytes words.entry.now) fault) }
 {
-    let command = command(alloc, choices)?;
-    let matches = command.try_get_matches_from(words)?;
-    Ok(asked_of(&matches))
+    match asked_with(alloc, words, Bounds::Counted, choices) {
+        Ok(asked) => Ok(asked),
+        Err(counted) => match asked_with(alloc, words, Bounds::Unbounded, choices) {
+            Ok(asked) => Ok(asked),
+            Err(unbounded) => Err(told_of(counted, unbounded)),
+        },
+    }
 }

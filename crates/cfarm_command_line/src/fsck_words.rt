@@ -3,11 +3,12 @@
 ghost use Rattle.std.specs.Prelude.{◌≡◌, IfOk, IfSome, IsNone};
 ghost use Rattle.clap.specs.Words.{found_of, rows_of};
 ghost use Rattle.cfarm_options.specs.Sizes.{size_of};
-ghost use Rattle.cfarm_command_line_others.specs.declared.task.FsckOptions.{FsckOptions};
-ghost use Rattle.cfarm_command_line_others.specs.Words.{AreFsckOptions, IsCommand, fsck_app, sizes_among};
+ghost use Rattle.cfarm_command_line_tasks.specs.declared.task.FsckOptions.{FsckOptions};
+ghost use Rattle.cfarm_command_line_tasks.specs.Words.{AreFsckOptions, IsCommand, fsck_app, sizes_among};
 
 use crate::size_words::{ACCEPT, FOLDER, PROMISE, nodes_of, size_of, sized};
-use cfarm_command_line_others::{Choices, FsckOptions, file, needed, with_argument};
+use cfarm_command_line_others::{file, needed, with_argument};
+use cfarm_command_line_tasks::{Choices, FsckOptions};
 use cfarm_options::{AskedSizes, Nodes};
 use clap::{ArgMatches, Command};
 use std::alloc::{AllocError, Global};

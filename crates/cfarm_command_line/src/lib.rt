@@ -4,6 +4,8 @@
 mod build_words;
 mod command_line;
 mod fsck_words;
+mod interpret_words;
+mod native_words;
 mod size_words;
 
 pub use command_line::asked_for;

@@ -3,10 +3,11 @@
 ghost use Rattle.std.specs.Prelude.{◌≡◌, Some, codes, IfOk, IfSome, IsNone};
 ghost use Rattle.clap.specs.Words.{App, found_of, first_of, first_value, rows_of};
 ghost use Rattle.cfarm_options.specs.declared.options.Nodes.{Nodes};
-ghost use Rattle.cfarm_command_line_others.specs.Words.{IsArgument, IsCommand, ReadsPerhaps, accept_rule, node_word, nodes_rule, promise_rule};
+ghost use Rattle.cfarm_command_line_tasks.specs.Words.{IsArgument, IsCommand, ReadsPerhaps, accept_rule, node_word, nodes_rule, promise_rule};
 ghost use Rattle.cfarm_command_line.specs.Sized.{with_sizes};
 
-use cfarm_command_line_others::{Choices, with_argument};
+use cfarm_command_line_others::with_argument;
+use cfarm_command_line_tasks::Choices;
 use cfarm_options::Nodes;
 use clap::builder::ValueParser;
 use clap::{Arg, ArgMatches, Command};

@@ -1,18 +1,18 @@
 -- The commands, one argument and one command after the other; and what is found of a command.
-use Rattle.std.specs.Prelude.{◌≡◌, ◌||◌, ℕ, ℤ, List, Option, None, Some, Result, Ok, Err, IfOk, IfSome, false, option_map, codes}
+use Rattle.std.specs.Prelude.{◌≡◌, ◌≢◌, ◌||◌, ℕ, ℤ, List, Option, None, Some, Result, Ok, Err, IfOk, IfSome, false, option_map, codes}
 use Rattle.std.specs.Result.{result_ok, result_unwrap_or}
 use Rattle.std.specs.Int.{w32}
 use Rattle.std.specs.Str.Parse.{ParsesSigned, ParsesUnsigned}
-use Rattle.std.proofs.Common.{ap, ap₂, sym, subst, ◌∙◌}
+use Rattle.std.proofs.Common.{ap, ap₂, refl, sym, subst, ◌∙◌}
 use Rattle.clap.proofs.WalkLemmas.{first_value-rows}
 use Rattle.clap.specs.Words.{AddsArg, AddsSubcommand, App, Row, Rule, Text, app_of, first_of, first_value, rows_of, rule_of, with_rule, with_subcommand}
 use Rattle.clap.specs.declared.builder.command.Command.TheViews.{out-Command as fields_of}
 use Rattle.clap.specs.declared.parser.matches.Found.{Found}
 use Rattle.clap.specs.declared.builder.arg.Arg.{Arg}
 use Rattle.clap.specs.declared.builder.command.Command.{Command}
-use Rattle.cfarm_command_line_others.specs.declared.task.Asked.{Asked}
-use Rattle.cfarm_command_line_others.specs.declared.task.Task.{Task}
-use Rattle.cfarm_command_line_others.specs.Words.{AsksNothingBy, IsArgument, IsAskedBy, IsCommand, IsTask, Reads, ReadsPerhaps, ReadsSigned}
+use Rattle.cfarm_command_line_tasks.specs.declared.task.Asked.{Asked}
+use Rattle.cfarm_command_line_tasks.specs.declared.task.Task.{Task}
+use Rattle.cfarm_command_line_tasks.specs.Words.{AsksNothingBy, IsArgument, IsAskedBy, IsCommand, IsTask, Reads, ReadsPerhaps, ReadsSigned, SaysBound}
 
 -- one more argument that is not global
 pub with_argument : (old new : Command) (a : Arg) (app : App) (r : Rule) → AddsArg old a new → app_of old ≡ app → (fields_of old).has_globals ≡ false → rule_of a ≡ r → a.global ≡ false → app_of new ≡ with_rule app r
@@ -70,6 +70,13 @@ reads_some {E} bits text x r e p = let q : ParsesUnsigned {E = E} bits 10 text (
 
 pub reads_none : {E : Type 0} (bits : ℕ) (text : List ℕ) (x : E) (r : Result ℕ E) → r ≡ Err x → ParsesUnsigned bits 10 text r → ReadsPerhaps bits (Some text) None
 reads_none {E} bits text x r e p = let q : ParsesUnsigned {E = E} bits 10 text (Err x) = subst (λ (y : Result ℕ E). ParsesUnsigned {E = E} bits 10 text y) e p in λ numeral below. absurd (q (numeral, below))
+
+-- the bound that is read: the word for none, and a number
+pub says_none : (text : List ℕ) → text ≡ codes "none" → SaysBound text 18446744073709551615
+says_none text same = (λ is. refl, λ other. absurd (other same))
+
+pub says_number : {E : Type 0} (text : List ℕ) (r : Result ℕ E) → text ≢ codes "none" → ParsesUnsigned 64 10 text r → SaysBound text (result_unwrap_or r 0)
+says_number text r other p = (λ is. absurd (other is), λ no. reads_of 64 text r p)
 
 -- the same of a number with a sign
 pub reads_signed : {E : Type 0} (text : List ℕ) (r : Result ℤ E) → ParsesSigned w32 10 text r → ReadsSigned (Some text) (result_ok r)

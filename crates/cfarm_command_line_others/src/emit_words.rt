@@ -2,10 +2,10 @@
 
 ghost use Rattle.std.specs.Prelude.{◌≡◌, Some, codes, IfOk, IfSome, IsNone};
 ghost use Rattle.clap.specs.Words.{first_of, first_value, found_of, rows_of};
-ghost use Rattle.cfarm_command_line_others.specs.Words.{IsArgument, IsCommand, IsNoWord, ReadsPerhaps, drawn_rule, emit_app, form_rule, form_word};
+ghost use Rattle.cfarm_command_line_tasks.specs.Words.{IsArgument, IsCommand, IsNoWord, ReadsPerhaps, drawn_rule, emit_app, form_rule, form_word};
 
-use crate::choices::Choices;
 use crate::joining::{file, with_argument};
+use cfarm_command_line_tasks::Choices;
 use cfarm_options::Emitted;
 use clap::builder::ValueParser;
 use clap::{Arg, ArgMatches, Command};

@@ -1,7 +1,7 @@
 //! Commands, one argument and one command after the other. Memory that is refused on the way is the answer of all that follows.
 
 ghost use Rattle.std.specs.Prelude.{Ok};
-ghost use Rattle.cfarm_command_line_others.specs.Words.{AddsArgument, AddsCommand, IsArgument, file_rule, needed_rule};
+ghost use Rattle.cfarm_command_line_tasks.specs.Words.{AddsArgument, AddsCommand, IsArgument, file_rule, needed_rule};
 
 use clap::builder::ValueParser;
 use clap::{Arg, Command};

@@ -2,11 +2,11 @@
 
 ghost use Rattle.std.specs.Prelude.{◌≡◌, IfOk, IfSome, IsNone};
 ghost use Rattle.clap.specs.Words.{found_of, rows_of};
-ghost use Rattle.cfarm_command_line_others.specs.declared.task.OfferAt.{OfferAt};
-ghost use Rattle.cfarm_command_line_others.specs.Words.{IsCommand, IsOfferAt, judge_app};
+ghost use Rattle.cfarm_command_line_tasks.specs.declared.task.OfferAt.{OfferAt};
+ghost use Rattle.cfarm_command_line_tasks.specs.Words.{IsCommand, IsOfferAt, judge_app};
 
 use crate::joining::{file, needed, with_argument};
-use crate::task::OfferAt;
+use cfarm_command_line_tasks::OfferAt;
 use clap::{ArgMatches, Command};
 use std::alloc::{AllocError, Global};
 

@@ -1,7 +1,7 @@
 //! What the command line says of the records of a journal.
 
 ghost use Rattle.std.specs.Prelude.{IfOk};
-ghost use Rattle.cfarm_command_line_others.specs.Words.{IsCommand, list_app};
+ghost use Rattle.cfarm_command_line_tasks.specs.Words.{IsCommand, list_app};
 
 use crate::joining::{file, with_argument};
 use clap::Command;

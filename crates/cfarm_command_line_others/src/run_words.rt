@@ -2,12 +2,13 @@
 
 ghost use Rattle.std.specs.Prelude.{◌≡◌, codes, IfOk, IfSome, IsNone};
 ghost use Rattle.clap.specs.Words.{found_of, first_of, first_value, rows_of};
-ghost use Rattle.cfarm_command_line_others.specs.Words.{IsArgument, IsCommand, IsNoFormat, Reads, ReadsSigned, check_app, exec_app, format_word};
-ghost use Rattle.cfarm_command_line_others.specs.Words.{depth_rule, expect_rule, format_rule, interpret_app, limit_rule};
+ghost use Rattle.cfarm_command_line_tasks.specs.Words.{IsArgument, IsCommand, IsNoFormat, ReadsBound, ReadsSigned, check_app, exec_app, format_word};
+ghost use Rattle.cfarm_command_line_tasks.specs.Words.{expect_rule, format_rule, limit_rule};
 
-use crate::choices::Choices;
+use crate::bound_words::{bound_in, unbounded};
+use crate::explain_words::explain;
 use crate::joining::{file, with_argument};
-use crate::task::Format;
+use cfarm_command_line_tasks::{Bounds, Choices, Format};
 use clap::builder::ValueParser;
 use clap::{Arg, ArgMatches, Command};
 use std::alloc::{AllocError, Global};
@@ -15,17 +16,11 @@ use std::alloc::{AllocError, Global};
 /// The option that says how a refusal is told.
 const FORMAT: &str = "format";
 
-/// The option that bounds a run of a C program.
-const DEPTH: &str = "depth";
-
 /// The option that bounds a run of a linked program.
 const LIMIT: &str = "limit";
 
 /// The option that says with what a linked program is to end.
 const EXPECT: &str = "expect";
-
-/// The greatest bound of a run of a C program.
-const GREATEST_DEPTH: u64 = 4_294_967_295;
 
 /// The greatest bound of a run of a linked program.
 const GREATEST_LIMIT: u64 = 9_223_372_036_854_775_807;
@@ -57,38 +52,18 @@ pub fn check<'a>(alloc: Global, choices: Choices<'a>) -> Result<Command<'a>, All
     with_argument(named, form(alloc, choices))
 }
 
-fn depth<'a>(alloc: Global) -> Arg<'a>
-    ensures { IsArgument depth_rule result }
+fn limit<'a>(alloc: Global, bounds: Bounds, choices: Choices<'a>) -> Arg<'a>
+    ensures { IsArgument (limit_rule bounds choices.entry) result }
 {
-    Arg::new(alloc, DEPTH)
-        .long(DEPTH)
-        .value_name("N")
-        .help("How many turns and calls may nest, from 0 to 4294967295")
-        .value_parser(ValueParser::Unsigned(0, GREATEST_DEPTH))
-        .default_value("100000")
-}
-
-pub fn interpret<'a>(alloc: Global) -> Result<Command<'a>, AllocError>
-    ensures { IfOk result (IsCommand interpret_app) }
-{
-    let plain = Command::new(alloc, "interpret")
-        .about("Runs a C program as the C standard means it")
-        .after_help(
-            "Writes what the program prints, and closes on standard error with `ended R`, `wrong` or `running`.\n\nStatus: 0 ended; 1 the text is refused, by number, name and byte offset; 2 the command line or\nthe file; 4 the output could not be written; 5 the program went wrong; 6 the bound was reached;\n7 no memory.",
-        );
-    let named = with_argument(Ok(plain), file(alloc, "A C text"));
-    with_argument(named, depth(alloc))
-}
-
-fn limit<'a>(alloc: Global) -> Arg<'a>
-    ensures { IsArgument limit_rule result }
-{
-    Arg::new(alloc, LIMIT)
-        .long(LIMIT)
-        .value_name("N")
-        .help("How many instructions may run, from 0 to 9223372036854775807")
-        .value_parser(ValueParser::Unsigned(0, GREATEST_LIMIT))
-        .default_value("1000000")
+    match bounds {
+        Bounds::Counted => Arg::new(alloc, LIMIT)
+            .long(LIMIT)
+            .value_name("N")
+            .help("How many instructions may run, from 0 to 9223372036854775807, or `none`")
+            .value_parser(ValueParser::Unsigned(0, GREATEST_LIMIT))
+            .default_value("1000000"),
+        Bounds::Unbounded => unbounded(alloc, LIMIT, choices),
+    }
 }
 
 fn expect<'a>(alloc: Global) -> Arg<'a>
@@ -101,8 +76,12 @@ fn expect<'a>(alloc: Global) -> Arg<'a>
         .value_parser(ValueParser::Signed(LEAST_RESULT, GREATEST_RESULT))
 }
 
-pub fn exec<'a>(alloc: Global) -> Result<Command<'a>, AllocError>
-    ensures { IfOk result (IsCommand exec_app) }
+pub fn exec<'a>(
+    alloc: Global,
+    bounds: Bounds,
+    choices: Choices<'a>,
+) -> Result<Command<'a>, AllocError>
+    ensures { IfOk result (IsCommand (exec_app bounds choices.entry)) }
 {
     let plain = Command::new(alloc, "exec")
         .about("Runs a linked program")
@@ -110,8 +89,9 @@ pub fn exec<'a>(alloc: Global) -> Result<Command<'a>, AllocError>
             "Writes what the program prints, and closes on standard error with `ended R`, `wrong` or `running`.\n\nStatus: 0 ended, and with --expect ended with R; 1 the bytes are refused, by number and name;\n2 the command line or the file; 4 the output could not be written; 5 the program went wrong, or\nwith --expect did not end with R; 6 the bound was reached; 7 no memory.",
         );
     let named = with_argument(Ok(plain), file(alloc, "The bytes of a program of Linear"));
-    let bounded = with_argument(named, limit(alloc));
-    with_argument(bounded, expect(alloc))
+    let bounded = with_argument(named, limit(alloc, bounds, choices));
+    let expected = with_argument(bounded, expect(alloc));
+    with_argument(expected, explain(alloc))
 }
 
 /// How a refusal is to be told; none at a word that is not offered.
@@ -133,24 +113,11 @@ fn format_named(words: &ArgMatches<'_>) -> Option<Format>
     }
 }
 
-/// The bound of a run of a C program, which is read as a number.
-pub fn depth_of(words: &ArgMatches<'_>) -> u32
-    ensures { Reads 32 (first_of (codes "depth") (rows_of (found_of words.now))) result }
-{
-    match words.get_str(DEPTH) {
-        Some(text) => text.parse().unwrap_or(0),
-        None => 0,
-    }
-}
-
-/// The bound of a run of a linked program, which is read as a number.
+/// The bound of a run of a linked program.
 pub fn limit_of(words: &ArgMatches<'_>) -> u64
-    ensures { Reads 64 (first_of (codes "limit") (rows_of (found_of words.now))) result }
+    ensures { ReadsBound (first_of (codes "limit") (rows_of (found_of words.now))) result }
 {
-    match words.get_str(LIMIT) {
-        Some(text) => text.parse().unwrap_or(0),
-        None => 0,
-    }
+    bound_in(words, LIMIT)
 }
 
 /// With what a linked program is to end, if that is said.

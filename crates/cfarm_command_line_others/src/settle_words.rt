@@ -1,7 +1,7 @@
 //! What the command line says of laying out.
 
 ghost use Rattle.std.specs.Prelude.{IfOk};
-ghost use Rattle.cfarm_command_line_others.specs.Words.{IsCommand, settle_app};
+ghost use Rattle.cfarm_command_line_tasks.specs.Words.{IsCommand, settle_app};
 
 use crate::joining::{file, with_argument};
 use clap::Command;

@@ -1,7 +1,7 @@
 //! What the command line says of the text of a program.
 
 ghost use Rattle.std.specs.Prelude.{IfOk};
-ghost use Rattle.cfarm_command_line_others.specs.Words.{IsCommand, show_app};
+ghost use Rattle.cfarm_command_line_tasks.specs.Words.{IsCommand, show_app};
 
 use crate::joining::{file, with_argument};
 use clap::Command;

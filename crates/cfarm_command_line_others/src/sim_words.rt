@@ -2,10 +2,10 @@
 
 ghost use Rattle.std.specs.Prelude.{◌≡◌, Some, codes, IfOk, IfSome, IsNone};
 ghost use Rattle.clap.specs.Words.{first_of, first_value, found_of, rows_of};
-ghost use Rattle.cfarm_command_line_others.specs.Words.{IsArgument, IsCommand, IsNoWord, showing_word, sim_app, svg_rule};
+ghost use Rattle.cfarm_command_line_tasks.specs.Words.{IsArgument, IsCommand, IsNoWord, showing_word, sim_app, svg_rule};
 
 use crate::joining::{file, with_argument};
-use crate::task::Showing;
+use cfarm_command_line_tasks::Showing;
 use clap::{Arg, ArgAction, ArgMatches, Command};
 use std::alloc::{AllocError, Global};
 

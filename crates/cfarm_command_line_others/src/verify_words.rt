@@ -2,11 +2,11 @@
 
 ghost use Rattle.std.specs.Prelude.{◌≡◌, IfOk, IfSome, IsNone};
 ghost use Rattle.clap.specs.Words.{found_of, rows_of};
-ghost use Rattle.cfarm_command_line_others.specs.declared.task.VerifyPaths.{VerifyPaths};
-ghost use Rattle.cfarm_command_line_others.specs.Words.{ArePaths, IsCommand, verify_app};
+ghost use Rattle.cfarm_command_line_tasks.specs.declared.task.VerifyPaths.{VerifyPaths};
+ghost use Rattle.cfarm_command_line_tasks.specs.Words.{ArePaths, IsCommand, verify_app};
 
 use crate::joining::{file, needed, with_argument};
-use crate::task::VerifyPaths;
+use cfarm_command_line_tasks::VerifyPaths;
 use clap::{ArgMatches, Command};
 use std::alloc::{AllocError, Global};
 

@@ -3,7 +3,7 @@ use Rattle.std.specs.Prelude.{codes}
 use Rattle.std.proofs.Common.{ap, ◌∙◌}
 use Rattle.clap.specs.Words.{new_app}
 use Rattle.clap.specs.Simple.{app_of_fields}
-use Rattle.cfarm_command_line_others.specs.Words.{file_rule, folder_rule, optimise_rule, bundle_path_rule, offers_path_rule, seed_rule, turns_rule}
+use Rattle.cfarm_command_line_tasks.specs.Words.{file_rule, folder_rule, optimise_rule, bundle_path_rule, offers_path_rule, seed_rule, turns_rule}
 use Rattle.cfarm_command_line.proofs.build_words.build.Goals as goal
 
 pub returns : goal.returns

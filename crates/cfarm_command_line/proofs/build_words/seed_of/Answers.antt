@@ -3,7 +3,7 @@ use Rattle.std.specs.Prelude.{codes}
 use Rattle.std.proofs.Common.{refl, subst, ◌∙◌}
 use Rattle.clap.specs.Words.{found_of}
 use Rattle.clap.proofs.WalkLemmas.{first_value-rows}
-use Rattle.cfarm_command_line_others.specs.Words.{Reads}
+use Rattle.cfarm_command_line_tasks.specs.Words.{Reads}
 use Rattle.cfarm_command_line_others.proofs.Commands.{reads_of}
 use Rattle.cfarm_command_line.proofs.build_words.seed_of.Goals as goal
 

@@ -1,41 +1,17 @@
--- Why `asked_for` meets its clauses `asks`, `none`, `right` and `refused`.
-use Rattle.std.specs.Prelude.{List, map, string_bytes}
-use Rattle.std.proofs.Common.{ap, subst, sym, ◌∙◌}
-use Rattle.std.proofs.lemmas.Option.{IfSome_then}
-use Rattle.std.proofs.lemmas.Result.{err_from_is_err_and}
-use Rattle.clap.specs.Words.{App, HasKind, Text, fault_of, is_simple, is_simple_and_free, subcommand_of, takes}
-use Rattle.cfarm_command_line_others.specs.Words.{AsksNothingBy, IsAskedBy}
+-- Why `asked_for` meets its clauses `answers`, `wrong` and `refused`.
+use Rattle.std.specs.Prelude.{map, string_bytes}
+use Rattle.cfarm_command_line_tasks.specs.declared.choices.Bounds.TheVariants.{Unbounded}
+use Rattle.cfarm_command_line.proofs.Bounds.{answers_by, refused_by, wrong_by}
 use Rattle.cfarm_command_line.proofs.command_line.asked_for.Goals as goal
 
-pub returns-clause-asks : goal.returns-clause-asks
-returns-clause-asks c =
-    let words : List Text = map string_bytes c.args.words.now in
-    let farm = c.in_ok-command.ensures.0 in
-    let found = (c.in_ok-matches.ensures.matches (ap is_simple farm)).1 in
-    IfSome_then c.asked_of.result c.asked_of.ensures.some (λ a h. subst (λ o. IsAskedBy o a.task a.path.now) (found ∙ ap (λ (x : App). subcommand_of x words) farm) h)
+pub returns-in-Ok-asked_with-clause-answers : goal.returns-in-Ok-asked_with-clause-answers
+returns-in-Ok-asked_with-clause-answers c = answers_by c.args.choices (map string_bytes c.args.words.now) Unbounded c.in-Ok-asked_with.asked
+    c.in-Ok-asked_with.ensures.right c.in-Ok-asked_with.ensures.asks c.in-Ok-asked_with.ensures.none
 
-pub returns-clause-none : goal.returns-clause-none
-returns-clause-none c =
-    let words : List Text = map string_bytes c.args.words.now in
-    let farm = c.in_ok-command.ensures.0 in
-    let found = (c.in_ok-matches.ensures.matches (ap is_simple farm)).1 in
-    λ none. subst AsksNothingBy (found ∙ ap (λ (x : App). subcommand_of x words) farm) (c.asked_of.ensures.none none)
+pub returns-in-Err-asked_with-clause-wrong : goal.returns-in-Err-asked_with-clause-wrong
+returns-in-Err-asked_with-clause-wrong c = wrong_by c.args.choices (map string_bytes c.args.words.now) c.in-Err.counted c.in-Err-asked_with.unbounded c.told_of.result
+    c.told_of.ensures c.in-Err.ensures.right c.in-Err-asked_with.ensures.right
 
-pub returns-clause-right : goal.returns-clause-right
-returns-clause-right c =
-    let words : List Text = map string_bytes c.args.words.now in
-    let farm = c.in_ok-command.ensures.0 in
-    ap (λ (x : App). fault_of x words) (sym farm) ∙ c.in_ok-matches.ensures.kinds (ap is_simple_and_free farm)
-
-pub returns-in_err-matches-clause-right : goal.returns-in_err-matches-clause-right
-returns-in_err-matches-clause-right c =
-    let words : List Text = map string_bytes c.args.words.now in
-    let farm = c.in_ok-command.ensures.0 in
-    let p = err_from_is_err_and c.from_residual-in_err-matches.result c.from_residual-in_err-matches.ensures.1 in
-    rw (p.1, p.2) (subst (λ k. HasKind k c.in_err-matches.field-0.0) (ap (λ (x : App). fault_of x words) farm) (c.in_err-matches.ensures.kinds (ap is_simple_and_free farm)))
-
-pub returns-in_err-matches-clause-refused : goal.returns-in_err-matches-clause-refused
-returns-in_err-matches-clause-refused c =
-    let words : List Text = map string_bytes c.args.words.now in
-    let p = err_from_is_err_and c.from_residual-in_err-matches.result c.from_residual-in_err-matches.ensures.1 in
-    rw (p.1, p.2) (λ taken. c.in_err-matches.ensures.passes (ap (λ (x : App). takes x words) c.in_ok-command.ensures.0 ∙ taken))
+pub returns-in-Err-asked_with-clause-refused : goal.returns-in-Err-asked_with-clause-refused
+returns-in-Err-asked_with-clause-refused c = refused_by c.args.choices (map string_bytes c.args.words.now) c.in-Err.counted c.in-Err-asked_with.unbounded c.told_of.result
+    c.told_of.ensures c.in-Err.ensures.refused c.in-Err-asked_with.ensures.refused

@@ -1,7 +1,7 @@
 -- Why `task_of` meets its clause `none`.
 use Rattle.std.proofs.Common.{refl, subst}
 use Rattle.clap.specs.Words.{found_of, rows_of}
-use Rattle.cfarm_command_line_others.specs.Words.{IsTask}
+use Rattle.cfarm_command_line_tasks.specs.Words.{IsTask}
 use Rattle.cfarm_command_line.proofs.Tasks.{only_fsck}
 use Rattle.cfarm_command_line.proofs.command_line.task_of.Goals as goal
 

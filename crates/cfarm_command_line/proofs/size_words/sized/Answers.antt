@@ -1,5 +1,5 @@
 -- Why `sized` meets its contract.
-use Rattle.cfarm_command_line_others.specs.Words.{accept_rule, nodes_rule, promise_rule}
+use Rattle.cfarm_command_line_tasks.specs.Words.{accept_rule, nodes_rule, promise_rule}
 use Rattle.cfarm_command_line.proofs.size_words.sized.Goals as goal
 
 pub returns : goal.returns

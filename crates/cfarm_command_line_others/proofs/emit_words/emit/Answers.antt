@@ -3,7 +3,7 @@ use Rattle.std.specs.Prelude.{codes}
 use Rattle.std.proofs.Common.{ap, ◌∙◌}
 use Rattle.clap.specs.Words.{new_app}
 use Rattle.clap.specs.Simple.{app_of_fields}
-use Rattle.cfarm_command_line_others.specs.Words.{drawn_rule, file_rule, form_rule}
+use Rattle.cfarm_command_line_tasks.specs.Words.{drawn_rule, file_rule, form_rule}
 use Rattle.cfarm_command_line_others.proofs.emit_words.emit.Goals as goal
 
 pub returns : goal.returns

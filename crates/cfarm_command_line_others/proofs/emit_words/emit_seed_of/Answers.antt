@@ -3,7 +3,7 @@ use Rattle.std.specs.Prelude.{codes}
 use Rattle.std.proofs.Common.{refl, subst, ◌∙◌, Some, None}
 use Rattle.clap.specs.Words.{found_of}
 use Rattle.clap.proofs.WalkLemmas.{first_value-rows}
-use Rattle.cfarm_command_line_others.specs.Words.{ReadsPerhaps}
+use Rattle.cfarm_command_line_tasks.specs.Words.{ReadsPerhaps}
 use Rattle.cfarm_command_line_others.proofs.Commands.{reads_none, reads_some}
 use Rattle.cfarm_command_line_others.proofs.emit_words.emit_seed_of.Goals as goal
 

@@ -3,7 +3,7 @@ use Rattle.std.specs.Prelude.{codes}
 use Rattle.std.proofs.Common.{refl, subst, ◌∙◌, None}
 use Rattle.clap.specs.Words.{found_of}
 use Rattle.clap.proofs.WalkLemmas.{first_value-rows}
-use Rattle.cfarm_command_line_others.specs.Words.{ReadsSigned}
+use Rattle.cfarm_command_line_tasks.specs.Words.{ReadsSigned}
 use Rattle.cfarm_command_line_others.proofs.Commands.{reads_signed}
 use Rattle.cfarm_command_line_others.proofs.run_words.expected_of.Goals as goal
 

@@ -3,7 +3,7 @@ use Rattle.std.specs.Prelude.{codes}
 use Rattle.std.proofs.Common.{ap, ◌∙◌}
 use Rattle.clap.specs.Words.{new_app}
 use Rattle.clap.specs.Simple.{app_of_fields}
-use Rattle.cfarm_command_line_others.specs.Words.{bundle_rule, file_rule, program_rule}
+use Rattle.cfarm_command_line_tasks.specs.Words.{bundle_rule, file_rule, program_rule}
 use Rattle.cfarm_command_line_others.proofs.verify_words.verify.Goals as goal
 
 pub returns : goal.returns

@@ -1,10 +1,10 @@
 -- What the words of a command line ask for. How words are read is defined in `clap`: here stand the commands, and what is
 -- asked for by what is found.
-use Rattle.std.specs.Prelude.{◌≡◌, ◌<◌, ◌^◌, ℕ, ℤ, pos, negsuc, FitsSigned, List, [], ◌∷◌, Option, Some, None, Result, IfOk, map, option_map, true, false, codes}
+use Rattle.std.specs.Prelude.{◌≡◌, ◌≢◌, ◌<◌, ◌^◌, ℕ, ℤ, pos, negsuc, FitsSigned, List, [], ◌∷◌, Option, Some, None, Result, IfOk, map, option_map, true, false, codes}
 use Rattle.std.specs.Int.{w32}
 use Rattle.std.specs.Borrow.{Bor}
 use Rattle.std.specs.Str.Parse.{IsNumeral, digits_value, signed_digits_value, without_leading_plus, without_leading_sign}
-use Rattle.clap.specs.Words.{App, Row, Rule, Text, app_of, first_of, kind_of, new_app, new_rule, rule_of, subcommand_of, takes, with_rule, with_subcommand}
+use Rattle.clap.specs.Words.{App, HasKind, Row, Rule, Text, app_of, fault_of, first_of, kind_of, new_app, new_rule, rule_of, subcommand_of, takes, with_rule, with_subcommand}
 use Rattle.clap.specs.declared.builder.action.ArgAction.TheVariants.{SetTrue}
 use Rattle.clap.specs.declared.builder.arg.Arg.{Arg}
 use Rattle.clap.specs.declared.builder.command.Command.{Command}
@@ -22,18 +22,23 @@ use Rattle.cfarm_options.specs.declared.options.Nodes.{Nodes}
 use Rattle.cfarm_options.specs.declared.options.Nodes.TheVariants.{Two, Three, Four, Five, Six, Seven}
 use Rattle.cfarm_options.specs.declared.options.Optimise.{Optimise}
 use Rattle.cfarm_options.specs.declared.options.Optimise.TheVariants.{Drawn, Speed}
-use Rattle.cfarm_command_line_others.specs.declared.choices.Choices.{Choices}
-use Rattle.cfarm_command_line_others.specs.declared.task.Asked.{Asked}
-use Rattle.cfarm_command_line_others.specs.declared.task.Format.{Format}
-use Rattle.cfarm_command_line_others.specs.declared.task.Format.TheVariants.{Plain, Gcc}
-use Rattle.cfarm_command_line_others.specs.declared.task.Showing.{Showing}
-use Rattle.cfarm_command_line_others.specs.declared.task.Showing.TheVariants.{Lines, Drawing}
-use Rattle.cfarm_command_line_others.specs.declared.task.Task.{Task}
-use Rattle.cfarm_command_line_others.specs.declared.task.Task.TheVariants.{Check, Interpret, Build, Exec, Settle, Simulate, Show, Verify, Emit, Judge, Fsck}
-use Rattle.cfarm_command_line_others.specs.declared.task.Task.TheVariants as task
-use Rattle.cfarm_command_line_others.specs.declared.task.FsckOptions.{FsckOptions}
-use Rattle.cfarm_command_line_others.specs.declared.task.OfferAt.{OfferAt}
-use Rattle.cfarm_command_line_others.specs.declared.task.VerifyPaths.{VerifyPaths}
+use Rattle.cfarm_command_line_tasks.specs.declared.choices.Bounds.{Bounds}
+use Rattle.cfarm_command_line_tasks.specs.declared.choices.Bounds.TheVariants.{Counted, Unbounded}
+use Rattle.cfarm_command_line_tasks.specs.declared.choices.Choices.{Choices}
+use Rattle.cfarm_command_line_tasks.specs.declared.task.Asked.{Asked}
+use Rattle.cfarm_command_line_tasks.specs.declared.task.Explaining.{Explaining}
+use Rattle.cfarm_command_line_tasks.specs.declared.task.Explaining.TheVariants.{Seen, Always}
+use Rattle.cfarm_command_line_tasks.specs.declared.task.Format.{Format}
+use Rattle.cfarm_command_line_tasks.specs.declared.task.Format.TheVariants.{Plain, Gcc}
+use Rattle.cfarm_command_line_tasks.specs.declared.task.Showing.{Showing}
+use Rattle.cfarm_command_line_tasks.specs.declared.task.Showing.TheVariants.{Lines, Drawing}
+use Rattle.cfarm_command_line_tasks.specs.declared.task.Task.{Task}
+use Rattle.cfarm_command_line_tasks.specs.declared.task.Task.TheVariants.{Check, Interpret, Build, Exec, Settle, Simulate, Show, Verify, Emit, Judge, Native, Fsck}
+use Rattle.cfarm_command_line_tasks.specs.declared.task.Task.TheVariants as task
+use Rattle.cfarm_command_line_tasks.specs.declared.task.FsckOptions.{FsckOptions}
+use Rattle.cfarm_command_line_tasks.specs.declared.task.NativeOptions.{NativeOptions}
+use Rattle.cfarm_command_line_tasks.specs.declared.task.OfferAt.{OfferAt}
+use Rattle.cfarm_command_line_tasks.specs.declared.task.VerifyPaths.{VerifyPaths}
 
 -- ---- the commands
 
@@ -49,12 +54,6 @@ needed_rule name = record (new_rule name) { long = Some name; value_names = 1; p
 abbrev pub bound_rule : Text → Text → ℕ → Rule
 bound_rule name standard most = record (new_rule name) { long = Some name; value_names = 1; parser = Some (Unsigned 0 most); defaults = standard ∷ [] }
 
-abbrev pub depth_rule : Rule
-depth_rule = bound_rule (codes "depth") (codes "100000") 4294967295
-
-abbrev pub limit_rule : Rule
-limit_rule = bound_rule (codes "limit") (codes "1000000") 9223372036854775807
-
 -- a number of 32 bits, of which nothing need be said
 abbrev pub expect_rule : Rule
 expect_rule = record (new_rule (codes "expect")) { long = Some (codes "expect"); value_names = 1; parser = Some (Signed (negsuc 2147483647) (pos 2147483647)) }
@@ -64,16 +63,32 @@ abbrev pub AreNames : Bor (List (Bor Text)) → List Text → Type 0
 AreNames names texts = map (λ name. name.now) names.now ≡ texts
 
 -- the numbers of nodes are those that a farm can have, optimisers choose in two ways, there is one form of a refusal beside the plain one,
--- and a program is written in five forms
+-- a program is written in five forms, and one word asks for a run without a bound
 abbrev pub AreChoices : Choices → Type 0
 AreChoices choices = AreNames choices.nodes (codes "2" ∷ codes "3" ∷ codes "4" ∷ codes "5" ∷ codes "6" ∷ codes "7" ∷ [])
     × AreNames choices.optimise (codes "drawn" ∷ codes "speed" ∷ [])
     × AreNames choices.formats (codes "gcc" ∷ [])
     × AreNames choices.forms (codes "cminor" ∷ codes "rtl" ∷ codes "ltl" ∷ codes "linear" ∷ codes "bundle" ∷ [])
+    × AreNames choices.unbounded (codes "none" ∷ [])
 
 -- one of these words, of which nothing need be said
 abbrev pub choice_rule : Text → Bor (List (Bor Text)) → Rule
 choice_rule name names = record (new_rule name) { long = Some name; value_names = 1; parser = Some (Names names) }
+
+-- the word for a run without a bound, which has to be said
+abbrev pub unbounded_rule : Text → Choices → Rule
+unbounded_rule name choices = record (choice_rule name choices.unbounded) { required = true }
+
+-- the bound of a run: a number, or the word for none
+abbrev pub limits_rule : Text → Text → ℕ → Bounds → Choices → Rule
+limits_rule name standard most Counted choices = bound_rule name standard most
+limits_rule name standard most Unbounded choices = unbounded_rule name choices
+
+abbrev pub depth_rule : Bounds → Choices → Rule
+depth_rule bounds choices = limits_rule (codes "depth") (codes "100000") 4294967295 bounds choices
+
+abbrev pub limit_rule : Bounds → Choices → Rule
+limit_rule bounds choices = limits_rule (codes "limit") (codes "1000000") 9223372036854775807 bounds choices
 
 abbrev pub format_rule : Choices → Rule
 format_rule choices = choice_rule (codes "format") choices.formats
@@ -81,8 +96,15 @@ format_rule choices = choice_rule (codes "format") choices.formats
 abbrev pub check_app : Choices → App
 check_app choices = with_rule (with_rule (new_app (codes "check")) file_rule) (format_rule choices)
 
-abbrev pub interpret_app : App
-interpret_app = with_rule (with_rule (new_app (codes "interpret")) file_rule) depth_rule
+-- a word alone, which stands once or not
+abbrev pub word_rule : Text → Rule
+word_rule name = record (new_rule name) { long = Some name; action = Some SetTrue }
+
+abbrev pub explain_rule : Rule
+explain_rule = word_rule (codes "explain")
+
+abbrev pub interpret_app : Bounds → Choices → App
+interpret_app bounds choices = with_rule (with_rule (with_rule (new_app (codes "interpret")) file_rule) (depth_rule bounds choices)) explain_rule
 
 abbrev pub nodes_rule : Choices → Rule
 nodes_rule choices = record (choice_rule (codes "nodes") choices.nodes) { defaults = codes "3" ∷ [] }
@@ -126,15 +148,14 @@ abbrev pub build_app : Choices → App
 build_app choices = with_rule (with_rule (with_rule (with_rule (with_rule (with_rule (with_rule (with_rule (with_rule (with_rule (new_app (codes "build")) file_rule) (nodes_rule choices))
     promise_rule) accept_rule) turns_rule) seed_rule) (optimise_rule choices)) folder_rule) bundle_path_rule) offers_path_rule
 
-abbrev pub exec_app : App
-exec_app = with_rule (with_rule (with_rule (new_app (codes "exec")) file_rule) limit_rule) expect_rule
+abbrev pub exec_app : Bounds → Choices → App
+exec_app bounds choices = with_rule (with_rule (with_rule (with_rule (new_app (codes "exec")) file_rule) (limit_rule bounds choices)) expect_rule) explain_rule
 
 abbrev pub settle_app : App
 settle_app = with_rule (new_app (codes "settle")) file_rule
 
--- a word alone, which stands once or not
 abbrev pub svg_rule : Rule
-svg_rule = record (new_rule (codes "svg")) { long = Some (codes "svg"); action = Some SetTrue }
+svg_rule = word_rule (codes "svg")
 
 abbrev pub sim_app : App
 sim_app = with_rule (with_rule (new_app (codes "sim")) file_rule) svg_rule
@@ -173,6 +194,17 @@ offer_rule = needed_rule (codes "offer")
 abbrev pub judge_app : App
 judge_app = with_rule (with_rule (with_rule (new_app (codes "judge")) file_rule) function_rule) offer_rule
 
+-- `-o`, with a path
+abbrev pub output_rule : Rule
+output_rule = record (new_rule (codes "output")) { short = Some 111; value_names = 1; parser = Some NonEmptyString }
+
+-- a prefix of names
+abbrev pub export_rule : Rule
+export_rule = path_rule (codes "export")
+
+abbrev pub native_app : App
+native_app = with_rule (with_rule (with_rule (new_app (codes "native")) file_rule) output_rule) export_rule
+
 abbrev pub fsck_app : Choices → App
 fsck_app choices = with_rule (with_rule (with_rule (with_rule (with_rule (new_app (codes "fsck")) file_rule) (nodes_rule choices)) promise_rule) accept_rule)
     folder_rule
@@ -189,15 +221,17 @@ top_app = on_top (λ s. record s { has_version = true; subcommand_required = tru
 abbrev pub and : App → App → App
 and app inner = with_subcommand app inner.top
 
-abbrev pub farm : Choices → App
-farm choices = and (and (and (and (and (and (and (and (and (and (and (and (and top_app
-    (check_app choices)) interpret_app) (build_app choices)) exec_app) settle_app) sim_app)
+-- the program where bounds of runs are said so
+abbrev pub farm : Bounds → Choices → App
+farm bounds choices = and (and (and (and (and (and (and (and (and (and (and (and (and (and top_app
+    (check_app choices)) (interpret_app bounds choices)) (build_app choices)) (exec_app bounds choices)) settle_app) sim_app)
     show_app)
     list_app)
     (fsck_app choices))
     verify_app)
     (emit_app choices))
     judge_app)
+    native_app)
     statuses_app
 
 -- a command that the parser reads so, with no argument of all commands
@@ -236,6 +270,18 @@ ReadsPerhaps bits None number = number ≡ None
 ReadsPerhaps bits (Some text) number = IsNumeral 10 (without_leading_plus text) → digits_value 10 (without_leading_plus text) < 2 ^ bits →
     number ≡ Some (digits_value 10 (without_leading_plus text))
 
+-- what is read for a run without a bound: the greatest number of 64 bits
+abbrev pub no_bound : ℕ
+no_bound = 18446744073709551615
+
+-- the bound of a run that a text says: by the word for none, or by a number
+abbrev pub SaysBound : Text → ℕ → Type 0
+SaysBound text number = (text ≡ codes "none" → number ≡ no_bound) × (text ≢ codes "none" → Reads 64 (Some text) number)
+
+abbrev pub ReadsBound : Option Text → ℕ → Type 0
+ReadsBound None number = number ≡ 0
+ReadsBound (Some text) number = SaysBound text number
+
 -- the number of 32 bits that a text spells so, which may have a sign
 abbrev pub ReadsSigned : Option Text → Option ℤ → Type 0
 ReadsSigned None number = number ≡ None
@@ -264,6 +310,11 @@ node_word Seven = codes "7"
 abbrev pub optimise_word : Optimise → Text
 optimise_word Drawn = codes "drawn"
 optimise_word Speed = codes "speed"
+
+-- the word for whom the end of a run is explained to: whether that is asked for
+abbrev pub explaining_word : Explaining → Text
+explaining_word Seen = codes "false"
+explaining_word Always = codes "true"
 
 -- the word for how a schedule is shown: whether a drawing is asked for
 abbrev pub showing_word : Showing → Text
@@ -312,6 +363,11 @@ pub record IsOfferAt (rows : List Row) (offer : OfferAt) : Type 0 where
   pub function : first_of (codes "function") rows ≡ Some offer.function.now
   pub path : first_of (codes "offer") rows ≡ Some offer.path.now
 
+-- what is found of how native code is written
+pub record AreNativeOptions (rows : List Row) (options : NativeOptions) : Type 0 where
+  pub output : IsPath rows (codes "output") options.output
+  pub prefix : IsPath rows (codes "export") options.prefix
+
 -- what is found of a folder that is looked through
 pub record AreFsckOptions (rows : List Row) (options : FsckOptions) : Type 0 where
   pub nodes : Nodes
@@ -323,18 +379,30 @@ pub record AreFsckOptions (rows : List Row) (options : FsckOptions) : Type 0 whe
   pub sizes : options.sizes ≡ sizes_among nodes promise accept
   pub folder : first_of (codes "dir") rows ≡ Some options.folder.now
 
+-- what is found of the bound of a run of a C program, and of to whom its end is explained
+abbrev pub IsBounded : List Row → ℕ → Explaining → Type 0
+IsBounded rows depth explaining =
+    ReadsBound (first_of (codes "depth") rows) depth × (first_of (codes "explain") rows ≡ Some (explaining_word explaining))
+
+-- what is found of the bound of a run of a linked program, of with what it is to end, and of to whom its end is explained
+abbrev pub IsLimited : List Row → ℕ → Option ℤ → Explaining → Type 0
+IsLimited rows limit expected explaining =
+    ReadsBound (first_of (codes "limit") rows) limit × ReadsSigned (first_of (codes "expect") rows) expected
+    × (first_of (codes "explain") rows ≡ Some (explaining_word explaining))
+
 -- the command of this name, with what is found of its arguments, is this task
 abbrev pub IsTask : Text → List Row → Task → Type 0
 IsTask name rows (Check format) = (name ≡ codes "check") × (first_of (codes "format") rows ≡ format_word format)
-IsTask name rows (Interpret depth) = (name ≡ codes "interpret") × Reads 32 (first_of (codes "depth") rows) depth
+IsTask name rows (Interpret depth explaining) = (name ≡ codes "interpret") × IsBounded rows depth explaining
 IsTask name rows (Build options) = (name ≡ codes "build") × AreOptions rows options
-IsTask name rows (Exec limit expected) = (name ≡ codes "exec") × Reads 64 (first_of (codes "limit") rows) limit × ReadsSigned (first_of (codes "expect") rows) expected
+IsTask name rows (Exec limit expected explaining) = (name ≡ codes "exec") × IsLimited rows limit expected explaining
 IsTask name rows Settle = name ≡ codes "settle"
 IsTask name rows (Simulate showing) = (name ≡ codes "sim") × (first_of (codes "svg") rows ≡ Some (showing_word showing))
 IsTask name rows Show = name ≡ codes "show"
 IsTask name rows task.List = name ≡ codes "log"
 IsTask name rows (Verify paths) = (name ≡ codes "verify") × ArePaths rows paths
 IsTask name rows (Judge offer) = (name ≡ codes "judge") × IsOfferAt rows offer
+IsTask name rows (Native options) = (name ≡ codes "native") × AreNativeOptions rows options
 IsTask name rows (Fsck options) = (name ≡ codes "fsck") × AreFsckOptions rows options
 IsTask name rows (Emit emitted seed) = (name ≡ codes "emit") × (first_of (codes "of") rows ≡ Some (form_word emitted)) × ReadsPerhaps 64 (first_of (codes "seed") rows) seed
 
@@ -343,21 +411,42 @@ abbrev pub IsAskedBy : Option (Text × List Row) → Task → Text → Type 0
 IsAskedBy None task path = ⊥
 IsAskedBy (Some (name, rows)) task path = IsTask name rows task × (first_of (codes "FILE") rows ≡ Some path)
 
--- the words ask for this task on the file of this path
-abbrev pub Asks : Choices → List Text → Task → Text → Type 0
-Asks choices words task path = IsAskedBy (subcommand_of (farm choices) words) task path
+-- the words, where bounds are said so, ask for this task on the file of this path
+abbrev pub Asks : Bounds → Choices → List Text → Task → Text → Type 0
+Asks bounds choices words task path = IsAskedBy (subcommand_of (farm bounds choices) words) task path
 
 -- they ask for this
-abbrev pub AsksFor : Choices → List Text → Asked → Type 0
-AsksFor choices words asked = Asks choices words asked.task asked.path.now
+abbrev pub AsksFor : Bounds → Choices → List Text → Asked → Type 0
+AsksFor bounds choices words asked = Asks bounds choices words asked.task asked.path.now
+
+-- nothing is wrong with the words where bounds are said so
+abbrev pub AreRight : Bounds → Choices → List Text → Type 0
+AreRight bounds choices words = fault_of (farm bounds choices) words ≡ []
+
+-- what is wrong with the words, where bounds are said in one of the two ways
+abbrev pub IsWrong : Choices → List Text → Error → Type 0
+IsWrong choices words fault = (bounds : Bounds) × HasKind (fault_of (farm bounds choices) words) fault
 
 -- words that can be taken are refused where memory is, alone
-abbrev pub IsRefusedRightly : Choices → List Text → Error → Type 0
-IsRefusedRightly choices words fault = takes (farm choices) words ≡ true → kind_of fault ≡ OutOfMemory
+abbrev pub IsRefusedRightly : Bounds → Choices → List Text → Error → Type 0
+IsRefusedRightly bounds choices words fault = takes (farm bounds choices) words ≡ true → kind_of fault ≡ OutOfMemory
 
--- the words ask for no task on any file
-abbrev pub AsksNothing : Choices → List Text → Type 0
-AsksNothing choices words = (task : Task) (path : Text) → Asks choices words task path → ⊥
+-- so it is however bounds are said
+abbrev pub AreRefusedRightly : Choices → List Text → Error → Type 0
+AreRefusedRightly choices words fault = (bounds : Bounds) → IsRefusedRightly bounds choices words fault
+
+-- the words, where bounds are said so, ask for no task on any file
+abbrev pub AsksNothing : Bounds → Choices → List Text → Type 0
+AsksNothing bounds choices words = (task : Task) (path : Text) → Asks bounds choices words task path → ⊥
+
+-- the words, at which nothing is wrong where bounds are said so, ask for this, or for nothing
+abbrev pub AnswersBy : Bounds → Choices → List Text → Option Asked → Type 0
+AnswersBy bounds choices words None = AreRight bounds choices words × AsksNothing bounds choices words
+AnswersBy bounds choices words (Some asked) = AreRight bounds choices words × AsksFor bounds choices words asked
+
+-- where bounds are said in one of the two ways
+abbrev pub Answers : Choices → List Text → Option Asked → Type 0
+Answers choices words asked = (bounds : Bounds) × AnswersBy bounds choices words asked
 
 -- what is found asks for no task on any file
 abbrev pub AsksNothingBy : Option (Text × List Row) → Type 0

@@ -20,6 +20,15 @@ pub enum Showing {
     Drawing,
 }
 
+/// To whom the end of a run is explained.
+#[derive(Clone, Copy)]
+pub enum Explaining {
+    /// To a user who sees standard error.
+    Seen,
+    /// Wherever standard error goes.
+    Always,
+}
+
 /// The files beside a text that is verified.
 #[derive(Clone, Copy)]
 pub struct VerifyPaths<'a> {
@@ -47,15 +56,24 @@ pub struct FsckOptions<'a> {
     pub folder: &'a str,
 }
 
+/// How the native code of a linked program is written.
+#[derive(Clone, Copy)]
+pub struct NativeOptions<'a> {
+    /// The file that it is put in, where one is said; `-` is the output.
+    pub output: Option<&'a str>,
+    /// The prefix under which C calls its functions, where they are exported.
+    pub prefix: Option<&'a str>,
+}
+
 /// What is to be done with a file.
 #[derive(Clone, Copy)]
 pub enum Task<'a> {
     Check(Format),
     /// With so many turns of loops and calls in one another.
-    Interpret(u32),
+    Interpret(u64, Explaining),
     Build(BuildOptions<'a>),
     /// For so many instructions, and with what it is expected to end, where that is said.
-    Exec(u64, Option<i32>),
+    Exec(u64, Option<i32>, Explaining),
     Settle,
     Simulate(Showing),
     Show,
@@ -64,6 +82,7 @@ pub enum Task<'a> {
     /// In this form, by the optimisers with a seed, where one is said.
     Emit(Emitted, Option<u64>),
     Judge(OfferAt<'a>),
+    Native(NativeOptions<'a>),
     Fsck(FsckOptions<'a>),
 }
 

@@ -1,16 +1,17 @@
--- Why `interpret` meets its contract.
+-- Why `native` meets its contract.
 use Rattle.std.specs.Prelude.{codes}
 use Rattle.std.proofs.Common.{ap, ◌∙◌}
 use Rattle.clap.specs.Words.{new_app}
 use Rattle.clap.specs.Simple.{app_of_fields}
-use Rattle.cfarm_command_line_others.specs.Words.{depth_rule, file_rule}
-use Rattle.cfarm_command_line_others.proofs.run_words.interpret.Goals as goal
+use Rattle.cfarm_command_line_tasks.specs.Words.{export_rule, file_rule, output_rule}
+use Rattle.cfarm_command_line.proofs.native_words.native.Goals as goal
 
 pub returns : goal.returns
 returns c =
-    let named = c.with_argument-named.ensures (new_app (codes "interpret")) file_rule (
+    let named = c.with_argument-named.ensures (new_app (codes "native")) file_rule (
       ap app_of_fields c.after_help-plain.ensures ∙ ap app_of_fields c.about.ensures ∙ c.new.ensures.app,
       ap (λ f. f.has_globals) c.after_help-plain.ensures ∙ ap (λ f. f.has_globals) c.about.ensures ∙ c.new.ensures.local,
     )
     c.file.ensures in
-    c.with_argument.ensures _ depth_rule named c.depth.ensures
+    let placed = c.with_argument-placed.ensures _ output_rule named c.output.ensures in
+    c.with_argument.ensures _ export_rule placed c.export.ensures

@@ -1,6 +1,6 @@
 //! What options offer that take one of some words.
 
-ghost use Rattle.cfarm_command_line_others.specs.Words.{AreChoices};
+ghost use Rattle.cfarm_command_line_tasks.specs.Words.{AreChoices};
 
 /// The words that options offer.
 #[derive(Clone, Copy)]
@@ -13,6 +13,17 @@ pub struct Choices<'a> {
     pub formats: &'a [&'a str],
     /// The forms of a program that can be written.
     pub forms: &'a [&'a str],
+    /// The word for a run without a bound.
+    pub unbounded: &'a [&'a str],
+}
+
+/// How the bound of a run is said.
+#[derive(Clone, Copy)]
+pub enum Bounds {
+    /// By a number.
+    Counted,
+    /// By the word for none.
+    Unbounded,
 }
 
 /// The words that the program's options offer.
@@ -24,5 +35,6 @@ pub fn offered<'a>() -> Choices<'a>
         optimise: &["drawn", "speed"],
         formats: &["gcc"],
         forms: &["cminor", "rtl", "ltl", "linear", "bundle"],
+        unbounded: &["none"],
     }
 }

@@ -1,0 +1,17 @@
+-- Why `interpret` meets its contract.
+use Rattle.std.specs.Prelude.{codes}
+use Rattle.std.proofs.Common.{ap, ◌∙◌}
+use Rattle.clap.specs.Words.{new_app}
+use Rattle.clap.specs.Simple.{app_of_fields}
+use Rattle.cfarm_command_line_tasks.specs.Words.{depth_rule, explain_rule, file_rule}
+use Rattle.cfarm_command_line.proofs.interpret_words.interpret.Goals as goal
+
+pub returns : goal.returns
+returns c =
+    let named = c.with_argument-named.ensures (new_app (codes "interpret")) file_rule (
+      ap app_of_fields c.after_help-plain.ensures ∙ ap app_of_fields c.about.ensures ∙ c.new.ensures.app,
+      ap (λ f. f.has_globals) c.after_help-plain.ensures ∙ ap (λ f. f.has_globals) c.about.ensures ∙ c.new.ensures.local,
+    )
+    c.file.ensures in
+    let bounded = c.with_argument-bounded.ensures _ (depth_rule c.args.bounds c.args.choices) named c.depth.ensures in
+    c.with_argument.ensures _ explain_rule bounded c.explain.ensures

@@ -1,0 +1,12 @@
+-- Why `native_options_of` meets its contract.
+use Rattle.std.specs.Prelude.{codes}
+use Rattle.std.proofs.Common.{sym, ◌∙◌}
+use Rattle.clap.specs.Words.{found_of}
+use Rattle.clap.proofs.WalkLemmas.{first_value-rows}
+use Rattle.cfarm_command_line.proofs.native_words.native_options_of.Goals as goal
+
+pub returns : goal.returns
+returns c = record {
+  output = sym (first_value-rows (found_of c.args.words.now) (codes "output")) ∙ sym c.get_str.ensures;
+  prefix = sym (first_value-rows (found_of c.args.words.now) (codes "export")) ∙ sym c.get_str-2.ensures;
+}
