@@ -4,14 +4,15 @@
 _cfarm_options() {
     case $1 in
     check) echo "--format --help" ;;
-    interpret) echo "--depth --help" ;;
+    interpret) echo "--depth --explain --help" ;;
     build) echo "--nodes --promise --accept --turns --seed --optimise --dir --bundle --offers --help" ;;
     fsck) echo "--nodes --promise --accept --dir --help" ;;
-    exec) echo "--limit --expect --help" ;;
+    exec) echo "--limit --expect --explain --help" ;;
     sim) echo "--svg --help" ;;
     verify) echo "--program --bundle --help" ;;
     emit) echo "--of --seed --help" ;;
     judge) echo "--function --offer --help" ;;
+    native) echo "-o --export --help" ;;
     settle | show | log) echo "--help" ;;
     *) echo "--help --version" ;;
     esac
@@ -29,7 +30,7 @@ _cfarm_values() {
 
 _cfarm() {
     local word=${COMP_WORDS[COMP_CWORD]} before=${COMP_WORDS[COMP_CWORD - 1]}
-    local commands="check interpret build exec settle sim show log fsck verify emit judge help"
+    local commands="check interpret build exec settle sim show log fsck verify emit judge native help"
     local command=
     [ "$COMP_CWORD" -gt 1 ] && command=${COMP_WORDS[1]}
     COMPREPLY=()
@@ -46,8 +47,9 @@ _cfarm() {
     [ "$before" = "=" ] && before=${COMP_WORDS[COMP_CWORD - 2]}
     case $before in
     --dir | --offers) COMPREPLY=($(compgen -d -- "$word")) ;;
-    --program | --bundle | --offer) COMPREPLY=($(compgen -f -- "$word")) ;;
-    --depth | --limit | --expect | --promise | --accept | --turns | --seed | --function) ;;
+    --program | --bundle | --offer | -o) COMPREPLY=($(compgen -f -- "$word")) ;;
+    --depth | --limit) COMPREPLY=($(compgen -W none -- "$word")) ;;
+    --expect | --promise | --accept | --turns | --seed | --function | --export) ;;
     --format | --nodes | --optimise | --of) COMPREPLY=($(compgen -W "$(_cfarm_values "$before")" -- "$word")) ;;
     *)
         case $word in

@@ -132,6 +132,14 @@ def looked(folder, functions, sizes, digest):
     return "".join(lines) + "ok\n"
 
 
+def lost(folder, nodes):
+    """What is told of nodes that have no journal, where others have more than one without records."""
+    sizes = [[len(read(f"{folder}/node{node}.{kind}")) for kind in ("cf2", "cfj")] for node in range(nodes)]
+    if max(map(max, sizes)) <= aged.HEAD + 1:
+        return ""
+    return "".join(f"node {node} has no journal, others have: what it had voted is not known\n" for node, it in enumerate(sizes) if not any(it))
+
+
 def read(path):
     try:
         with open(path, "rb") as file:
@@ -238,13 +246,14 @@ class Tries:
         there = self.copy(folder)
         status, _, line = self.run(["build", *self.words(text, there, sizes), "--turns", "0"])
         shutil.rmtree(there)
+        line = "".join(it for it in line.splitlines(keepends=True) if not it.startswith("migrated "))
         return None if status in (0, 3) else (status, "", line.replace(there, folder))
 
     def fsck(self, what, text, folder, sizes):
         before = {it: read(os.path.join(folder, it)) for it in sorted(os.listdir(folder))}
         wanted = self.refusal(text, folder, sizes)
         if wanted is None:
-            wanted = (0, looked(folder, FUNCTIONS[text], sizes, hashlib.sha256(text.encode()).digest()), "")
+            wanted = (0, looked(folder, FUNCTIONS[text], sizes, hashlib.sha256(text.encode()).digest()), lost(folder, sizes[0]))
         self.judge(what, self.run(["fsck", *self.words(text, folder, sizes)]), wanted)
         after = {it: read(os.path.join(folder, it)) for it in sorted(os.listdir(folder))}
         before.setdefault("cfarm.lock", b"")

@@ -235,8 +235,8 @@ class Cases:
                 self.expect(screen, title, screen.shown(f"{self.named} {words}"), "hi\nended 3\n")
                 self.expect(screen, title, screen.shown(f"{self.named} {words} 2>/dev/null"), "hi")
                 self.expect(screen, title, screen.shown(f"{self.named} {words} >/dev/null"), "ended 3\n")
-        deeper = "running\nthe bound was reached: `--depth N` sets how many turns and calls may stand in one another\n"
-        longer = "running\nthe bound was reached: `--limit N` sets how many instructions may be done\n"
+        deeper = "running\nstopped at 9 turns and calls in one another; --depth N allows more, --depth none all\n"
+        longer = "running\nstopped after 99 instructions; --limit N allows more, --limit none all\n"
         name, folder = self.file("bound.c", LOOPS.replace(b"putchar('\\n');", b"")), self.folder()
         self.answer("build", name, "--dir", folder)
         if self.wants("bound, interpret"):
@@ -276,7 +276,7 @@ class Cases:
                 fcntl.flock(lock, fcntl.LOCK_EX)
                 found = screen.shown(f"{build} --dir {built}")
             hint = "another build is running in that folder, or it is missing or cannot be written"
-            self.expect(screen, "lock, another has it", found, f"file {built}/cfarm.lock\n{hint}\n")
+            self.expect(screen, "lock, another has it", found, f"file {built}/cfarm.lock\nanother process holds it\n{hint}\n")
             self.expect(screen, "lock, given back", screen.shown(f"{build} --dir {built}"), report)
         again = "give the folder of this build or an empty one (--dir); a `linked.cfp` that is there is of the old build\n"
         for title, words, told in (
@@ -286,7 +286,8 @@ class Cases:
         ):
             if self.wants(f"journals of another {title}"):
                 line = "that journal is of " + (told if title == "sizes" else f"another {told}")
-                wanted = f"journal 404 OtherSource node 0\n{line}:\n{again}"
+                why = "the journals of that folder are of another text, nodes or quorums: this build needs a folder of its own (--dir)"
+                wanted = f"journal 404 OtherSource node 0\n{why}\n{line}:\n{again}"
                 self.expect(screen, f"journals of another {title}", screen.shown(f"{self.named} {words}"), wanted)
         for count, which in ((3, None), (1, (1,))):
             if self.wants("migrated"):

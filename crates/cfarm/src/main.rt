@@ -40,14 +40,14 @@ fn run_in<H: Naming + Send, R: Threads + Wait + Sync, E: ErrorLines>(
 {
     let alloc = rt.alloc();
     let hall = opened.named::<H>();
-    let mut files = HostFiles(rt);
+    let is_seen = rt.stderr().is_terminal();
+    let mut files = HostFiles::over(rt, is_seen);
     let mut screen = Screen::over(rt);
     let host = Host {
         threads,
         alloc,
         hall: &hall,
     };
-    let is_seen = rt.stderr().is_terminal();
     match BufWriter::new(alloc, io::writer(rt)) {
         Ok(out) => run(
             &host,

@@ -1,6 +1,6 @@
 //! Where a user sees how far a build is.
 
-use cfarm_options::{Ignored, Meter};
+use cfarm_options::{Ignored, Meter, Note};
 use std::io;
 use std::io::{IsTerminal, Write};
 use std::time::{Duration, Instant};
@@ -9,7 +9,7 @@ use std::time::{Duration, Instant};
 const SHOWN: u64 = 100;
 
 /// A line on standard error that is written again and again, ten times a second at most, where that is a terminal; else nothing is
-/// written but the lines of files that were not used. Above it stands a line that stays where journals were migrated. The terminal cuts each where it
+/// written but the lines of files that were not used and of the folder. Above it stands a line that stays where journals were migrated. The terminal cuts each where it
 /// ends. A line that cannot be written is left out.
 #[derive(Drop)]
 pub struct Screen<'a> {
@@ -20,6 +20,8 @@ pub struct Screen<'a> {
     /// How many journals of the first version were found.
     old: usize,
     nodes: usize,
+    /// What is to be told of the folder.
+    notes: Vec<Note>,
 }
 
 impl<'a> Screen<'a> {
@@ -32,6 +34,7 @@ impl<'a> Screen<'a> {
             last: None,
             old: 0,
             nodes: 0,
+            notes: Vec::new(rt.alloc()),
         }
     }
 }
@@ -95,6 +98,21 @@ impl Meter for Screen<'_> {
         let standard_error = self.rt.stderr();
         let mut line = io::writer(&standard_error);
         let _ = write!(line, "{told}\n");
+        let _ = line.flush();
+    }
+
+    /// One for which there is no memory is left out.
+    fn note(&mut self, told: Note) {
+        let _ = self.notes.push(told);
+    }
+
+    /// They are told where standard error is no terminal too.
+    fn ended(&mut self) {
+        let standard_error = self.rt.stderr();
+        let mut line = io::writer(&standard_error);
+        for note in &self.notes {
+            let _ = write!(line, "{note}\n");
+        }
         let _ = line.flush();
     }
 }

@@ -24,5 +24,5 @@ building_in_table (G.Build (B.Failed node fault)) = unless (halts.number_of faul
 building_in_table (G.Build B.Undecided) = omega arith
 building_in_table (G.Build (B.Unlinked fault name)) = omega arith
 building_in_table (G.Build B.Names) = omega arith
-building_in_table (G.File path) = omega arith
+building_in_table (G.File path reason) = omega arith
 building_in_table G.Write = omega arith

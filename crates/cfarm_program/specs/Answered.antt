@@ -7,34 +7,33 @@ use Rattle.clap.specs.declared.error.kind.ErrorKind.{ErrorKind}
 use Rattle.clap.specs.declared.error.kind.ErrorKind.TheVariants.{DisplayHelp, DisplayVersion, OutOfMemory}
 use Rattle.cfarm_output.specs.Begun.{IsBegun}
 use Rattle.cfarm_output.specs.Errors.{ErrorsHeld}
-use Rattle.cfarm_output.specs.declared.paced.Paced.{Paced}
-use Rattle.cfarm_build.specs.Changed.{Changed}
 use Rattle.cfarm_program_status.specs.Telling.{IsShown, IsToldAs, no_memory, unwritten}
+use Rattle.cfarm_program_status.specs.Trace.{Shown}
 
 -- help or the version is asked for
 abbrev pub IsHelp : ErrorKind → Type 0
 IsHelp kind = (kind ≡ DisplayHelp) ⊎ (kind ≡ DisplayVersion)
 
--- With an output and lines for a user, as a call found both and left them, and an exit status.
-module _ {W E : Type 0} (contents : W → Option (List ℕ)) (errors : E → ErrorsHeld) (status : ℕ) (out : Changed (Paced W)) (err : Changed E) where
+-- With an output and lines for a user, of what a call shows.
+module _ {W E : Type 0} (contents : W → Option (List ℕ)) (errors : E → ErrorsHeld) (s : Shown W E) where
   -- nothing is printed
   abbrev pub IsUnprinted : Type 0
-  IsUnprinted = contents out.exit.now.taker ≡ contents out.entry.now.taker
+  IsUnprinted = contents s.out.exit.now.taker ≡ contents s.out.entry.now.taker
 
   -- the text is printed with the status 0, and nothing told; or a beginning of it, and it is told that the rest could not be written
   abbrev pub IsHelpPrinted : List ℕ → Type 0
   IsHelpPrinted text =
-      ((status ≡ 0) × Appends (contents out.entry.now.taker) (contents out.exit.now.taker) text × (errors err.exit.now ≡ errors err.entry.now))
-      ⊎ (IsBegun text (contents out.entry.now.taker) (contents out.exit.now.taker)
-      × IsToldAs unwritten status (errors err.entry.now) (errors err.exit.now))
+      ((s.status ≡ 0) × Appends (contents s.out.entry.now.taker) (contents s.out.exit.now.taker) text × (errors s.err.exit.now ≡ errors s.err.entry.now))
+      ⊎ (IsBegun text (contents s.out.entry.now.taker) (contents s.out.exit.now.taker)
+      × IsToldAs unwritten s.status (errors s.err.entry.now) (errors s.err.exit.now))
 
   -- the text is told with the status 2, or standard error failed; nothing is printed
   abbrev pub IsMistakeTold : List ℕ → Type 0
-  IsMistakeTold text = IsUnprinted × IsShown text 2 status (errors err.entry.now) (errors err.exit.now)
+  IsMistakeTold text = IsUnprinted × IsShown text 2 s.status (errors s.err.entry.now) (errors s.err.exit.now)
 
   -- it is told that memory was refused; nothing is printed
   abbrev pub IsMemoryTold : Type 0
-  IsMemoryTold = IsUnprinted × IsToldAs no_memory status (errors err.entry.now) (errors err.exit.now)
+  IsMemoryTold = IsUnprinted × IsToldAs no_memory s.status (errors s.err.entry.now) (errors s.err.exit.now)
 
   -- help is printed, and a mistake is told
   abbrev pub IsTextShown : ErrorKind → List ℕ → Type 0

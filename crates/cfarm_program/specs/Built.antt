@@ -3,15 +3,16 @@ use Rattle.std.specs.Prelude.{◌≡◌, ◌⊎◌, List, Option, ℕ}
 use Rattle.cfarm_files.specs.Placing.{KeepsFolder}
 use Rattle.cfarm_files.specs.Using.{UsesNone}
 use Rattle.cfarm_files.specs.declared.fault.FileFault.TheVariants.{Refused}
+use Rattle.cfarm_files.specs.declared.reason.Reason.TheVariants.{Unsaid}
 use Rattle.cfarm_build.specs.Answers as building
 use Rattle.cfarm_build.specs.BuildingError.{BuildingError}
-use Rattle.cfarm_build.specs.Changed.{Changed}
 use Rattle.cfarm_build.specs.Done.{HasBuilt, IsNotBuilt}
 use Rattle.cfarm_build.specs.declared.farm.Farm as farms
 use Rattle.cfarm_options.specs.declared.options.BuildOptions.{BuildOptions}
 use Rattle.cfarm_own_files.specs.Barred.{AreAllFree, IsBarred}
 use Rattle.cfarm_program_status.specs.Reading.{Coming, unread}
 use Rattle.cfarm_program_status.specs.Telling.{Answer, no_memory, quiet, told}
+use Rattle.cfarm_program_status.specs.Trace.{Changed}
 
 abbrev pub building_fault : BuildingError → Answer
 building_fault fault = told (building.status_of fault) (building.building_line fault)
@@ -33,7 +34,7 @@ module _ {F H D L : Type 0} (farm : farms.Ghosts F H D L) (files : Changed F) (o
   -- a path that the build is given may not be used, which is told of it; or there was no memory to find out
   abbrev pub TellsBarred : (path : List ℕ) → Answer → Type 0
   TellsBarred path answer =
-      ((at : List ℕ) × IsBarred farm.files files.entry.now options path at × (answer ≡ unread at Refused)) ⊎ (answer ≡ no_memory)
+      ((at : List ℕ) × IsBarred farm.files files.entry.now options path at × (answer ≡ unread at (Refused Unsaid))) ⊎ (answer ≡ no_memory)
 
   -- `build`: one of its paths may not be used, and then nothing is made, put, printed or opened; else the build is done
   abbrev pub Builds : (path bytes : List ℕ) → Coming

@@ -6,7 +6,7 @@
 //! |---|---|---|
 //! | 0 | done | `ended R` after a run, else nothing |
 //! | 1 | the file is refused | `refused NUMBER Name at OFFSET`, `refused NUMBER Name` for bytes, or `refused 240 TooManyNodes in NAME` |
-//! | 2 | the command line; quorums that need not meet; a file that cannot be read or written; a schedule with a line that is none | the text of `clap`; `quorums N Q1 Q2`; `file PATH`; `schedule LINE` |
+//! | 2 | the command line; quorums that need not meet; a prefix that is no C name; a file that cannot be read or written; a schedule with a line that is none | the text of `clap`; `quorums N Q1 Q2`; `prefix PREFIX`; `file PATH`; `schedule LINE` |
 //! | 3 | undecided | `undecided` |
 //! | 4 | a journal is refused or fails | `journal NUMBER Name node I`, `journal NUMBER Name room R` |
 //! | 4 | what was learned does not link | `link NUMBER Name in FUNCTION` |
@@ -16,6 +16,7 @@
 //! | 7 | no memory, or a thread cannot be made | `memory` |
 #![tactic(auto)]
 
+mod mistake;
 mod performing;
 mod program;
 mod running;

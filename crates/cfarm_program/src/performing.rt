@@ -3,19 +3,21 @@
 ghost use Rattle.std.specs.Prelude.{◌≤◌};
 ghost use Rattle.paxos_core_world.specs.Quorum.{AreQuorums};
 ghost use Rattle.cfarm_options.specs.Quorums.{asked_quorums, quorums_of};
+ghost use Rattle.cfarm_program_status.specs.Trace.{trace};
 ghost use Rattle.cfarm_program.specs.Met.{AreMet};
 ghost use Rattle.cfarm_program.specs.Performed.{Built, BuiltApart, Does, Looks};
 
 use cfarm_build::{Farm, Host, build_text, of_build};
-use cfarm_command_line_others::{FsckOptions, Task};
-use cfarm_files::{FileFault, Files};
+use cfarm_command_line_tasks::{FsckOptions, Task};
+use cfarm_files::Files;
 use cfarm_fsck_files::look_through;
 use cfarm_options::{BuildOptions, Meter};
 use cfarm_output::{ErrorLines, Paced};
 use cfarm_own_files::barred;
 use cfarm_program_looks::{emit_form, judge_offer, list_records, show_text, verify_files};
+use cfarm_program_native::write_native;
 use cfarm_program_runs::{check, lay_out, play, run_bytes, run_text};
-use cfarm_program_status::{tell_among, tell_no_memory, tell_unread};
+use cfarm_program_status::{tell_among, tell_barred, tell_no_memory};
 use rooms_hall::Naming;
 use std::io::Write;
 use std::sync::Wait;
@@ -43,18 +45,23 @@ fn build_apart<
 ) -> u8
     requires leave { F.may_lock files.now }
     requires met { AreQuorums (quorums_of options) }
-    ensures does { BuiltApart ⟦<F as Farm<H>>⟧ W.Write E.ErrorLines is_seen options.entry text.now result files out err }
+    ensures does { BuiltApart ⟦<F as Farm<H>>⟧ W.Write E.ErrorLines is_seen options.entry text.now (trace result files out err) }
     ensures table { result ≤ 7 }
 {
     let Some(quorums) = options.quorums() else {
         unreachable!();
     };
     match build_text(host, text, options, quorums, files, meter, out) {
-        Ok(()) => 0,
+        Ok(()) => {
+            meter.ended();
+            0
+        }
         Err(fault) => {
             let status = fault.status();
             let behind = of_build(host.alloc, is_seen, options, path, text, &*files, &fault);
-            tell_among(err, false, fault, status, behind.as_str())
+            let told = tell_among(err, false, fault, status, behind.as_str());
+            meter.ended();
+            told
         }
     }
 }
@@ -74,12 +81,12 @@ fn build<H: Naming + Send, R: Threads + Wait + Sync, F: Files, M: Meter, W: Writ
 ) -> u8
     requires leave { F.may_lock files.now }
     requires met { AreQuorums (quorums_of asked) }
-    ensures does { Built ⟦<F as Farm<H>>⟧ W.Write E.ErrorLines is_seen asked.entry path.now text.now result files out err }
+    ensures does { Built ⟦<F as Farm<H>>⟧ W.Write E.ErrorLines is_seen asked.entry path.now text.now (trace result files out err) }
     ensures table { result ≤ 7 }
 {
     match barred(host.alloc, &*files, path, asked) {
         Ok(None) => build_apart(host, is_seen, asked, path, text, files, meter, out, err),
-        Ok(Some(at)) => tell_unread(err, at.as_str(), FileFault::Refused),
+        Ok(Some(at)) => tell_barred(err, is_seen, at.as_str()),
         Err(_) => tell_no_memory(err),
     }
 }
@@ -94,7 +101,7 @@ fn look<H: Naming, R: Threads + Wait + Sync, F: Files, W: Write, E: ErrorLines>(
 ) -> u8
     requires leave { F.may_lock files.now }
     requires met { AreQuorums (asked_quorums options.sizes) }
-    ensures does { Looks F.Files W.Write E.ErrorLines options.entry text.now result files out err }
+    ensures does { Looks F.Files W.Write E.ErrorLines options.entry text.now (trace result files out err) }
     ensures table { result ≤ 7 }
 {
     let Some(quorums) = options.sizes.quorums() else {
@@ -135,15 +142,19 @@ pub(crate) fn perform<
 ) -> u8
     requires leave { F.may_lock files.now }
     requires met { AreMet task }
-    ensures does { Does ⟦<F as Farm<H>>⟧ W.Write E.ErrorLines is_seen task.entry path.now bytes.now result files out err }
+    ensures does { Does ⟦<F as Farm<H>>⟧ W.Write E.ErrorLines is_seen task.entry path.now bytes.now (trace result files out err) }
     ensures table { result ≤ 7 }
 {
     let alloc = host.alloc;
     match task {
         Task::Check(format) => check(alloc, is_seen, format, path, bytes, out, err),
-        Task::Interpret(depth) => run_text(alloc, is_seen, path, bytes, depth, out, err),
+        Task::Interpret(depth, explaining) => {
+            run_text(alloc, is_seen, explaining, path, bytes, depth, out, err)
+        }
         Task::Build(options) => build(host, is_seen, options, path, bytes, files, meter, out, err),
-        Task::Exec(limit, expected) => run_bytes(alloc, is_seen, bytes, limit, expected, out, err),
+        Task::Exec(limit, expected, explaining) => run_bytes(
+            alloc, is_seen, explaining, bytes, limit, expected, out, err,
+        ),
         Task::Settle => lay_out(host.threads, alloc, bytes, out, err),
         Task::Simulate(showing) => play(alloc, showing, bytes, out, err),
         Task::Show => show_text(alloc, bytes, out, err),
@@ -168,6 +179,7 @@ pub(crate) fn perform<
             out,
             err,
         ),
+        Task::Native(options) => write_native(alloc, options, path, bytes, files, out, err),
         Task::Fsck(options) => look(host, options, bytes, files, out, err),
     }
 }

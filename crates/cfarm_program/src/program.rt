@@ -4,6 +4,7 @@ ghost use Rattle.std.specs.Prelude.{◌≢◌, ◌≤◌, IfSome, OnSome};
 ghost use Rattle.std.specs.String.{string_bytes};
 ghost use Rattle.clap.specs.Words.{kind_of};
 ghost use Rattle.clap.specs.declared.error.kind.ErrorKind.TheVariants.{DisplayHelp, DisplayVersion, OutOfMemory};
+ghost use Rattle.cfarm_program_status.specs.Trace.{shown, trace};
 ghost use Rattle.cfarm_program_status.specs.Telling.{IsShown, IsToldAs};
 ghost use Rattle.cfarm_program.specs.Answered.{IsAnswerShown, IsHelp, IsHelpPrinted, IsMistakeTold};
 ghost use Rattle.cfarm_program.specs.Runs.{Runs, no_text};
@@ -12,7 +13,7 @@ use crate::running::run_task;
 use crate::wording::Wording;
 use cfarm_build::{Farm, Host};
 use cfarm_command_line::asked_for;
-use cfarm_command_line_others::offered;
+use cfarm_command_line_tasks::offered;
 use cfarm_files::Files;
 use cfarm_options::Meter;
 use cfarm_output::{ErrorLines, Paced, Unwritten, print_whole};
@@ -40,7 +41,7 @@ fn tell_mistake<E: ErrorLines>(text: &str, err: &mut E) -> u8
 
 /// Prints this text, of the help that the words ask for.
 fn print_help<W: Write, E: ErrorLines>(text: &str, out: &mut Paced<W>, err: &mut E) -> u8
-    ensures printed { IsHelpPrinted W.contents E.contents result out err text.now }
+    ensures printed { IsHelpPrinted W.contents E.contents (shown result out err) text.now }
     ensures table { result ≤ 7 }
 {
     match print_whole(out, text.as_bytes()) {
@@ -51,8 +52,8 @@ fn print_help<W: Write, E: ErrorLines>(text: &str, out: &mut Paced<W>, err: &mut
 
 /// Prints the text of an answer of this kind, or tells it.
 fn show<W: Write, E: ErrorLines>(kind: ErrorKind, text: &str, out: &mut Paced<W>, err: &mut E) -> u8
-    ensures help { IsHelp kind → IsHelpPrinted W.contents E.contents result out err text.now }
-    ensures mistake { kind ≢ DisplayHelp → kind ≢ DisplayVersion → IsMistakeTold W.contents E.contents result out err text.now }
+    ensures help { IsHelp kind → IsHelpPrinted W.contents E.contents (shown result out err) text.now }
+    ensures mistake { kind ≢ DisplayHelp → kind ≢ DisplayVersion → IsMistakeTold W.contents E.contents (shown result out err) text.now }
     ensures table { result ≤ 7 }
 {
     match kind {
@@ -83,7 +84,7 @@ fn tell_refused<T: Wording, W: Write, E: ErrorLines>(
     out: &mut Paced<W>,
     err: &mut E,
 ) -> u8
-    ensures told { IsAnswerShown W.contents E.contents result out err (T.may_show wording.now) fault.now }
+    ensures told { IsAnswerShown W.contents E.contents (shown result out err) (T.may_show wording.now) fault.now }
     ensures table { result ≤ 7 }
 {
     match text_shown(alloc, wording, fault) {
@@ -116,7 +117,7 @@ where
     W: Write,
     E: ErrorLines,
     requires leave { F.may_lock files.now }
-    ensures does { Runs ⟦<F as Farm<H>>⟧ W.Write E.ErrorLines T.Wording is_seen wording.now words.now result files out err }
+    ensures does { Runs ⟦<F as Farm<H>>⟧ W.Write E.ErrorLines T.Wording is_seen wording.now words.now (trace result files out err) }
     ensures table { result ≤ 7 }
 {
     let choices = offered();

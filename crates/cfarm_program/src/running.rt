@@ -1,37 +1,44 @@
 //! A task on the file of a path.
 
 ghost use Rattle.std.specs.Prelude.{◌≤◌, IfSome, IsNone};
+ghost use Rattle.cfarm_program_status.specs.Trace.{trace};
 ghost use Rattle.cfarm_program.specs.Met.{AreMet, IsUnmet};
 ghost use Rattle.cfarm_program.specs.Performed.{Reads, RunsTask};
 
+use crate::mistake::Mistake;
 use crate::performing::perform;
 use cfarm_build::{Farm, Host};
-use cfarm_command_line_others::Task;
+use cfarm_command_line_tasks::Task;
 use cfarm_files::Files;
-use cfarm_options::{AskedSizes, Meter};
+use cfarm_options::Meter;
 use cfarm_output::{ErrorLines, Paced};
+use cfarm_program_native::wrong_prefix;
 use cfarm_program_status::{tell, tell_unread};
 use rooms_hall::Naming;
 use std::io::Write;
 use std::sync::Wait;
 use std::thread::Threads;
 
-/// The status for quorums that need not meet.
+/// The status for what is wrong with a task.
 const UNMET: u8 = 2;
 
-/// The sizes of the quorums that a task asks for, where these need not meet.
-fn unmet(task: Task<'_>) -> Option<AskedSizes>
+/// What is wrong with a task before its file is read: its quorums need not meet, or its prefix is no C name.
+fn unmet<'a>(task: Task<'a>) -> Option<Mistake<'a>>
     ensures some { IfSome result (IsUnmet task.entry) }
     ensures none { IsNone result → AreMet task.entry }
 {
     match task {
         Task::Build(options) => match options.quorums() {
             Some(_quorums) => None,
-            None => Some(options.sizes()),
+            None => Some(Mistake::Quorums(options.sizes())),
         },
         Task::Fsck(options) => match options.sizes.quorums() {
             Some(_quorums) => None,
-            None => Some(options.sizes),
+            None => Some(Mistake::Quorums(options.sizes)),
+        },
+        Task::Native(options) => match wrong_prefix(options.prefix) {
+            Some(prefix) => Some(Mistake::Prefix(prefix)),
+            None => None,
         },
         _ => None,
     }
@@ -58,7 +65,7 @@ fn read_and_perform<
 ) -> u8
     requires leave { F.may_lock files.now }
     requires met { AreMet task }
-    ensures does { Reads ⟦<F as Farm<H>>⟧ W.Write E.ErrorLines is_seen task.entry path.now result files out err }
+    ensures does { Reads ⟦<F as Farm<H>>⟧ W.Write E.ErrorLines is_seen task.entry path.now (trace result files out err) }
     ensures table { result ≤ 7 }
 {
     match files.read(path) {
@@ -68,7 +75,7 @@ fn read_and_perform<
 }
 
 /// Does the task on the file of this path: writes the output, tells a line on standard error where there is one, and gives the exit
-/// status. Where the quorums that it asks for need not meet, that is told, and no file is read.
+/// status. Where something is wrong with the task itself, that is told, and no file is read.
 pub(crate) fn run_task<
     H: Naming + Send,
     R: Threads + Wait + Sync,
@@ -87,11 +94,11 @@ pub(crate) fn run_task<
     err: &mut E,
 ) -> u8
     requires leave { F.may_lock files.now }
-    ensures does { RunsTask ⟦<F as Farm<H>>⟧ W.Write E.ErrorLines is_seen task.entry path.now result files out err }
+    ensures does { RunsTask ⟦<F as Farm<H>>⟧ W.Write E.ErrorLines is_seen task.entry path.now (trace result files out err) }
     ensures table { result ≤ 7 }
 {
     match unmet(task) {
-        Some(sizes) => tell(err, sizes, UNMET),
+        Some(mistake) => tell(err, mistake, UNMET),
         None => read_and_perform(host, is_seen, task, path, files, meter, out, err),
     }
 }

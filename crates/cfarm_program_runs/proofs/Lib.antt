@@ -1,1 +1,4 @@
+pub mod Asked
 pub mod Tables
+pub mod Causes
+pub mod Bounded

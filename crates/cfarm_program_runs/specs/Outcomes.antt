@@ -20,10 +20,10 @@ use Rattle.cfarm_sim.specs.declared.error.ScheduleError.{ScheduleError}
 use Rattle.cfarm_sim.specs.Lines as schedule
 use Rattle.cfarm_sim.specs.Plays.{IsShown, IsStopped}
 use Rattle.cfarm_sim_svg.specs.Drawn.{IsDrawn, IsUndrawn}
-use Rattle.cfarm_command_line_others.specs.declared.task.Format.{Format}
-use Rattle.cfarm_command_line_others.specs.declared.task.Format.TheVariants.{Plain, Gcc}
-use Rattle.cfarm_command_line_others.specs.declared.task.Showing.{Showing}
-use Rattle.cfarm_command_line_others.specs.declared.task.Showing.TheVariants.{Lines, Drawing}
+use Rattle.cfarm_command_line_tasks.specs.declared.task.Format.{Format}
+use Rattle.cfarm_command_line_tasks.specs.declared.task.Format.TheVariants.{Plain, Gcc}
+use Rattle.cfarm_command_line_tasks.specs.declared.task.Showing.{Showing}
+use Rattle.cfarm_command_line_tasks.specs.declared.task.Showing.TheVariants.{Lines, Drawing}
 use Rattle.cfarm_program_status.specs.Telling.{Answer, quiet, told}
 
 -- the answer after a run, and after each command that is not done

@@ -1,21 +1,28 @@
 //! Commands over the bytes of one file, with what each tells.
 
-ghost use Rattle.std.specs.Prelude.{◌≤◌};
+ghost use Rattle.std.specs.Prelude.{◌≡◌, ◌⊎◌, ◌≤◌, [], IsOkAnd, false, true, string_bytes};
 ghost use Rattle.cfarm_program_status.specs.Reading.{Says};
+ghost use Rattle.cfarm_program_status.specs.Trace.{shown};
 ghost use Rattle.cfarm_program_status.specs.Telling.{IsExplained};
-ghost use Rattle.cfarm_program_runs.specs.Outcomes.{Executed, Interpreted, Settled, text_fault};
-ghost use Rattle.cfarm_program_runs.specs.Saying.{Checks, Explains, IsFaultTold};
+ghost use Rattle.cfarm_program_runs.specs.Outcomes.{Executed, Settled, text_fault};
+ghost use Rattle.cfarm_program_runs.specs.Saying.{CausesOf, Checks, Executes, Interprets, IsBehindStopped, IsBehindWrong, IsFaultTold};
+ghost use Rattle.cfarm_program_runs.specs.Saying.{StoppedAtDepth, StoppedAtLimit};
+ghost use Rattle.cfarm_program_runs.specs.Explained.{is_asked};
+ghost use Rattle.cfarm_explain.specs.Bounds.{depth_text, limit_text};
 
-use cfarm_command_line_others::Format;
-use cfarm_hints::{is_amid, of_depth, of_limit, of_text};
+use cfarm_command_line_tasks::{Explaining, Format};
+use cfarm_explain::{explain, stopped_at_depth, stopped_at_limit};
+use cfarm_hints::{is_amid, of_text};
 use cfarm_output::{ErrorLines, Paced};
 use cfarm_program_status::{tell, tell_among};
 use cfarm_run::{
     Closing, CommandError, PlacedError, check_text, exec, interpret, status_of, status_where,
 };
 use cfarm_settle::settle;
+use lang_base::{NoMemory, Shown};
 use std::alloc::Global;
 use std::io::Write;
+use std::str;
 use std::sync::Wait;
 use std::thread::Threads;
 
@@ -73,7 +80,7 @@ pub fn check<W: Write, E: ErrorLines>(
     out: &mut Paced<W>,
     err: &mut E,
 ) -> u8
-    ensures does { Checks W.contents E.contents is_seen format path.now text.now result out err }
+    ensures does { Checks W.contents E.contents is_seen format path.now text.now (shown result out err) }
     ensures table { result ≤ 7 }
 {
     match check_text(alloc, text, out) {
@@ -82,54 +89,154 @@ pub fn check<W: Write, E: ErrorLines>(
     }
 }
 
-/// `interpret`: writes what the program of a text prints, and tells how it closed.
+/// Whether the end of a run is explained.
+fn is_asked(is_seen: bool, explaining: Explaining) -> bool
+    ensures { result ≡ is_asked is_seen explaining }
+{
+    match explaining {
+        Explaining::Seen => is_seen,
+        Explaining::Always => true,
+    }
+}
+
+/// Why the run of a text went wrong, where and in which calls; nothing where there is no memory for that.
+fn cause_of(alloc: Global, path: &str, text: &[u8], depth: u64) -> String
+    ensures { IsBehindWrong true path.now text.now depth (string_bytes result) }
+{
+    let Ok(Some(lines)) = explain(alloc, path.as_bytes(), text, depth) else {
+        return String::new(alloc);
+    };
+    let Ok(told) = str::from_utf8(lines.as_slice()) else {
+        return String::new(alloc);
+    };
+    match told.to_string(alloc) {
+        Ok(cause) => cause,
+        Err(_) => String::new(alloc),
+    }
+}
+
+/// The text of these bytes; nothing where there is no memory for it.
+fn as_text(alloc: Global, told: Result<Vec<u8>, NoMemory>) -> String
+    ensures { (string_bytes result ≡ []) ⊎ IsOkAnd told (λ text. string_bytes result ≡ text.items) }
+{
+    let Ok(bytes) = told else {
+        return String::new(alloc);
+    };
+    let Ok(text) = str::from_utf8(bytes.as_slice()) else {
+        return String::new(alloc);
+    };
+    match text.to_string(alloc) {
+        Ok(text) => text,
+        Err(_) => String::new(alloc),
+    }
+}
+
+/// At which bound a run of a text was stopped.
+fn depth_told(alloc: Global, depth: u64) -> String
+    ensures { IsBehindStopped true (depth_text depth) (string_bytes result) }
+{
+    as_text(alloc, stopped_at_depth(alloc, depth))
+}
+
+/// At which bound a run of a linked program was stopped.
+fn limit_told(alloc: Global, limit: u64) -> String
+    ensures { IsBehindStopped true (limit_text limit) (string_bytes result) }
+{
+    as_text(alloc, stopped_at_limit(alloc, limit))
+}
+
+/// What stands behind the line of a run of a text: where it went wrong its cause, where it was stopped the bound.
+fn behind_run(
+    alloc: Global,
+    is_explained: bool,
+    path: &str,
+    text: &[u8],
+    depth: u64,
+    shown: Shown,
+) -> String
+    ensures unseen { is_explained ≡ false → string_bytes result ≡ [] }
+    ensures wrong { shown ≡ Shown.Wrong → IsBehindWrong is_explained path.now text.now depth (string_bytes result) }
+    ensures stopped { shown ≡ Shown.Running → IsBehindStopped is_explained (depth_text depth) (string_bytes result) }
+{
+    match shown {
+        Shown::Wrong if is_explained => cause_of(alloc, path, text, depth),
+        Shown::Running if is_explained => depth_told(alloc, depth),
+        _ => String::new(alloc),
+    }
+}
+
+/// What stands behind the line of a run of a linked program: where it was stopped the bound.
+fn behind_exec(alloc: Global, is_explained: bool, limit: u64, shown: Shown) -> String
+    ensures unseen { is_explained ≡ false → string_bytes result ≡ [] }
+    ensures stopped { shown ≡ Shown.Running → IsBehindStopped is_explained (limit_text limit) (string_bytes result) }
+{
+    match shown {
+        Shown::Running if is_explained => limit_told(alloc, limit),
+        _ => String::new(alloc),
+    }
+}
+
+/// `interpret`: writes what the program of a text prints, and tells how it closed; where it went wrong and that is explained, why.
 #[tactic(auto, using(crate::proofs::Tables::error_in_table, crate::proofs::Tables::shown_in_table))]
 pub fn run_text<W: Write, E: ErrorLines>(
     alloc: Global,
     is_seen: bool,
+    explaining: Explaining,
     path: &str,
     text: &[u8],
-    depth: u32,
+    depth: u64,
     out: &mut Paced<W>,
     err: &mut E,
 ) -> u8
-    ensures does { Explains W.contents E.contents is_seen (Interpreted text.now depth) result out err }
+    ensures does { Interprets W.contents E.contents is_seen explaining text.now depth (shown result out err) }
+    ensures cause { CausesOf is_seen explaining path.now text.now depth result (E.contents err.old) (E.contents err.new) }
+    ensures stopped { StoppedAtDepth is_seen explaining depth result (E.contents err.old) (E.contents err.new) }
     ensures table { result ≤ 7 }
 {
+    let is_explained = is_asked(is_seen, explaining);
     match interpret(alloc, text, depth, out) {
         Ok(shown) => {
             let front = is_amid(is_seen, out);
-            let behind = of_depth(is_seen, shown);
-            tell_among(err, front, Closing(shown), status_of(shown), behind)
+            let behind = behind_run(alloc, is_explained, path, text, depth, shown);
+            tell_among(
+                err,
+                front,
+                Closing(shown),
+                status_of(shown),
+                behind.as_str(),
+            )
         }
-        Err(fault) => tell_fault(alloc, is_seen, path, text, fault, err),
+        Err(fault) => tell_fault(alloc, is_explained, path, text, fault, err),
     }
 }
 
-/// `exec`: writes what a linked program prints, and tells how it closed.
+/// `exec`: writes what a linked program prints, and tells how it closed; where it was stopped and that is explained, at which bound.
 #[tactic(auto, using(crate::proofs::Tables::exec_in_table, crate::proofs::Tables::where_in_table))]
 pub fn run_bytes<W: Write, E: ErrorLines>(
     alloc: Global,
     is_seen: bool,
+    explaining: Explaining,
     bytes: &[u8],
     limit: u64,
     expected: Option<i32>,
     out: &mut Paced<W>,
     err: &mut E,
 ) -> u8
-    ensures does { Explains W.contents E.contents is_seen (Executed bytes.now limit expected) result out err }
+    ensures does { Executes W.contents E.contents is_seen explaining (Executed bytes.now limit expected) (shown result out err) }
+    ensures stopped { StoppedAtLimit is_seen explaining limit result (E.contents err.old) (E.contents err.new) }
     ensures table { result ≤ 7 }
 {
+    let is_explained = is_asked(is_seen, explaining);
     match exec(alloc, bytes, limit, out) {
         Ok(shown) => {
             let front = is_amid(is_seen, out);
-            let behind = of_limit(is_seen, shown);
+            let behind = behind_exec(alloc, is_explained, limit, shown);
             tell_among(
                 err,
                 front,
                 Closing(shown),
                 status_where(shown, expected),
-                behind,
+                behind.as_str(),
             )
         }
         Err(fault) => tell_among(err, false, fault, fault.status(), ""),
@@ -145,7 +252,7 @@ pub fn lay_out<R: Threads + Wait, W: Write, E: ErrorLines>(
     out: &mut Paced<W>,
     err: &mut E,
 ) -> u8
-    ensures does { Says W.contents E.contents (Settled bytes.now) result out.old out.new err.old err.new }
+    ensures does { Says W.contents E.contents (Settled bytes.now) (shown result out err) }
     ensures table { result ≤ 7 }
 {
     match settle(rt, alloc, bytes, out) {

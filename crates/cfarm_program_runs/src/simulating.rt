@@ -2,9 +2,10 @@
 
 ghost use Rattle.std.specs.Prelude.{◌≤◌};
 ghost use Rattle.cfarm_program_status.specs.Reading.{Says};
+ghost use Rattle.cfarm_program_status.specs.Trace.{shown};
 ghost use Rattle.cfarm_program_runs.specs.Outcomes.{Drawn, Lined, Simulated};
 
-use cfarm_command_line_others::Showing;
+use cfarm_command_line_tasks::Showing;
 use cfarm_output::{ErrorLines, Paced};
 use cfarm_program_status::tell;
 use cfarm_sim::simulate;
@@ -19,7 +20,7 @@ fn lines<W: Write, E: ErrorLines>(
     out: &mut Paced<W>,
     err: &mut E,
 ) -> u8
-    ensures does { Says W.contents E.contents (Lined schedule.now) result out.old out.new err.old err.new }
+    ensures does { Says W.contents E.contents (Lined schedule.now) (shown result out err) }
     ensures table { result ≤ 7 }
 {
     match simulate(alloc, schedule, out) {
@@ -35,7 +36,7 @@ fn picture<W: Write, E: ErrorLines>(
     out: &mut Paced<W>,
     err: &mut E,
 ) -> u8
-    ensures does { Says W.contents E.contents (Drawn schedule.now) result out.old out.new err.old err.new }
+    ensures does { Says W.contents E.contents (Drawn schedule.now) (shown result out err) }
     ensures table { result ≤ 7 }
 {
     match draw(alloc, schedule, out) {
@@ -52,7 +53,7 @@ pub fn play<W: Write, E: ErrorLines>(
     out: &mut Paced<W>,
     err: &mut E,
 ) -> u8
-    ensures does { Says W.contents E.contents (Simulated showing schedule.now) result out.old out.new err.old err.new }
+    ensures does { Says W.contents E.contents (Simulated showing schedule.now) (shown result out err) }
     ensures table { result ≤ 7 }
 {
     match showing {

@@ -63,7 +63,7 @@ fn filled<D: Disk + Drop>(alloc: Global, disk: D, appends: u16) -> Option<(D, Op
 
 /// Whether the journal answers that it has stopped.
 fn has_stopped<D: Disk>(log: &mut Log<D>, entry: &Record) -> bool
-    requires { IsSound D.is_honest D.seen D.may_leave log.old }
+    requires { IsSound D.Disk log.old }
 {
     matches!(log.append(entry), Err(LogError::Stopped))
 }

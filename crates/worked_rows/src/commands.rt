@@ -10,7 +10,7 @@
 //! | `unflushed WORDS < TEXT`, `untold WORDS < TEXT` | the same as `run`, where the output, or standard error, cannot be flushed |
 //! | `linked WORDS < TEXT` | the same as `run`, without what the program does that was put |
 //! | `bundled WORDS < TEXT` | the same as `linked`, with the paths of all files that were put; and where these are a bundle and a program, what `verify` says of them |
-//! | `here WORDS` | the same as `run`, with the files of the machine |
+//! | `here WORDS`, `shown WORDS` | the same as `run`, and as `seen`, with the files of the machine |
 //! | `bytes PATH` | the bytes of a file of the machine, in hex; `none` where none is there |
 //! | `twice FOLDER WORDS` | the same, of a build in the folder, and the same of `exec --limit 1000` on its `linked.cfp`; and `same` where a second build answers the same and leaves the same file |
 //! | `proved FOLDER WORDS` | the same as `linked`, of a build in the folder, and what `verify` says of its `linked.cfp` and `linked.cfb` |

@@ -20,7 +20,7 @@ fn ran_here<H: Naming + Send, R: Threads + Wait + Sync>(
     run_over(
         here,
         words,
-        &mut HostFiles(rt),
+        &mut HostFiles::over(rt, here.is_seen),
         Held::ample(alloc),
         Held::ample(alloc),
     )
@@ -120,7 +120,7 @@ fn proved<H: Naming + Send, R: Threads + Wait + Sync>(
     let ran = ran_here(rt, here, words);
     let bytes = fs::read(rt, program).ok()?;
     let told = told(alloc, &ran, &bytes)?;
-    let mut files = HostFiles(rt);
+    let mut files = HostFiles::over(rt, false);
     let says = verified(here, &mut files, text, program, bundle, &bytes)?;
     format!(in alloc; "{told} {says}").ok()
 }

@@ -50,6 +50,16 @@ fn told<H: Naming + Send, R: Threads + Wait + Sync>(
     }
 }
 
+/// The same place, where the streams are terminals or are not.
+fn seen_where<'a, H: Naming, R>(here: &Here<'a, H, R>, is_seen: bool) -> Here<'a, H, R> {
+    Here {
+        threads: here.threads,
+        hall: here.hall,
+        alloc: here.alloc,
+        is_seen,
+    }
+}
+
 /// The answer to any question. Some are about the files of the machine.
 fn asked<H: Naming + Send, R: Threads + Wait + Sync>(
     rt: &HostRuntime,
@@ -59,17 +69,13 @@ fn asked<H: Naming + Send, R: Threads + Wait + Sync>(
     let (kind, rest) = question.split_once(' ').unwrap_or((question, ""));
     match kind {
         "here" => answer_here(rt, here, rest),
+        "shown" => answer_here(rt, &seen_where(here, true), rest),
         "bytes" => bytes_here(rt, rest),
         "twice" => answer_twice(rt, here, rest),
         "proved" => answer_proved(rt, here, rest),
         _ => {
             let (line, text) = rest.split_once(" <").unwrap_or((rest, ""));
-            let here = Here {
-                threads: here.threads,
-                hall: here.hall,
-                alloc: here.alloc,
-                is_seen: kind == "seen",
-            };
+            let here = seen_where(here, kind == "seen");
             told(&here, kind, line, text.trim_start())
         }
     }

@@ -41,7 +41,8 @@ pub fn words_of(alloc: Global, line: &str) -> Option<Vec<String>> {
     Some(words)
 }
 
-/// Runs the program over these files, with these writers. Lines of files that were not used stand in front of standard error.
+/// Runs the program over these files, with these writers. Lines of files that were not used stand in front of standard error, and those
+/// of the folder behind it.
 pub fn run_over<H: Naming + Send, R: Threads + Wait + Sync, F: Files>(
     here: &Here<'_, H, R>,
     words: &[String],
@@ -56,6 +57,8 @@ pub fn run_over<H: Naming + Send, R: Threads + Wait + Sync, F: Files>(
         cleared: 0,
         alloc: here.alloc,
         ignored: Vec::new(here.alloc),
+        noted: Vec::new(here.alloc),
+        has_ended: false,
     };
     let mut out = Paced::over(out, here.is_seen);
     let mut lines = ErrorWriter::over(err);
@@ -74,8 +77,17 @@ pub fn run_over<H: Naming + Send, R: Threads + Wait + Sync, F: Files>(
         &mut out,
         &mut lines,
     );
-    let mut err = quiet.ignored;
+    let Quiet {
+        ignored,
+        noted,
+        has_ended,
+        ..
+    } = quiet;
+    let mut err = ignored;
     let _ = err.extend_from_slice(&lines.into_writer().bytes);
+    if has_ended {
+        let _ = err.extend_from_slice(&noted);
+    }
     Ran {
         status,
         out: out.taker.bytes,

@@ -2,6 +2,7 @@
 use Rattle.std.proofs.Common.{refl, inl, inr, sym, subst}
 use Rattle.cfarm_files.proofs.Uses.{uses_none}
 use Rattle.cfarm_files.specs.declared.fault.FileFault.TheVariants.{Refused}
+use Rattle.cfarm_files.specs.declared.reason.Reason.TheVariants.{Unsaid}
 use Rattle.cfarm_program_status.specs.Reading.{unread}
 use Rattle.cfarm_program_status.specs.Telling.{no_memory}
 use Rattle.cfarm_program_status.proofs.Answering.{plainly}
@@ -19,8 +20,8 @@ returns-in-Ok-Some-clause-does g c =
     let at = c.in-Ok-Some.at in
     let barred = rw c.in-Ok-Some.field-0-is at c.in-Ok-Some.ensures.barred in
     let is = subst (IsBarred g.F.Files c.args.files.now c.args.asked c.args.path.now) (sym c.as_str.ensures.value) barred in
-    let answer = unread c.as_str.result.now Refused in
-    (answer, inl (inl (c.as_str.result.now, is, refl), (keeps_same _, uses_none (g.F.Files.used c.args.files.now), refl)), plainly c.args.is_seen answer _ _ _ c.tell_unread.ensures.told)
+    let answer = unread c.as_str.result.now (Refused Unsaid) in
+    (answer, inl (inl (c.as_str.result.now, is, refl), (keeps_same _, uses_none (g.F.Files.used c.args.files.now), refl)), c.tell_barred.ensures.told)
 
 pub returns-in-Err-clause-does : goal.returns-in-Err-clause-does
 returns-in-Err-clause-does g c =

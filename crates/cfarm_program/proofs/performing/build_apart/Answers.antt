@@ -16,5 +16,5 @@ returns-in-Err-clause-does g c =
       building_fault fault,
       inr (fault, c.in-Err.ensures.refused, refl),
       among c.args.is_seen false _ _ _ (building_line fault) _ _ _ c.status-status.ensures (λ unseen. refl)
-          (λ unseen. c.as_str.ensures.value ∙ c.of_build-behind.ensures unseen) (c.tell_among.ensures.told (building_line fault) refl),
+          (λ unseen. c.as_str.ensures.value ∙ c.of_build-behind.ensures unseen) (c.tell_among-told.ensures.told (building_line fault) refl),
     )

@@ -58,6 +58,11 @@ returns-in-Judge-clause-does g c =
     let it = c.judge_offer.ensures.does in
     rw c.in-Judge.is (it.0, (keeps_files _ _, it.1), plainly c.args.is_seen it.0 _ _ _ it.2)
 
+pub returns-in-Native-clause-does : goal.returns-in-Native-clause-does
+returns-in-Native-clause-does g c =
+    let it = c.write_native.ensures.does in
+    rw c.in-Native.is (it.0, it.1, plainly c.args.is_seen it.0 _ _ _ it.2)
+
 pub look-requires-clause-met : goal.look-requires-clause-met
 look-requires-clause-met g c κs within = subst AreMet c.in-Fsck.is c.requires.met
 
