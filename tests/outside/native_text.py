@@ -92,6 +92,7 @@ def program(data):
     return variables, functions
 
 
+def is_power(w): return w is not None and w.bit_count() == 1
 def signed(w): return w if w < 2**31 else w - 2**32
 
 
@@ -169,7 +170,7 @@ class Writer:
                 self.move(A, "%eax")
                 self.line(SHIFTED[op], "%cl", "%eax")
                 self.move("%eax", D)
-        elif kind in ("Div", "Mod"): self.divide(op[3] == "S", kind == "Div", D, A, B, b, w)
+        elif kind in ("Div", "Mod"): self.divide(op[3] == "S", kind == "Div", d, a, b, w)
         elif op == "IsZero":
             self.line("cmpl", "$0", A)
             self.flagged("e", D)
@@ -181,7 +182,12 @@ class Writer:
         self.line("set" + cc, "%al")
         self.line("movzbl", "%al", D)
 
-    def divide(self, is_signed, is_quotient, D, A, B, b, w):
+    def divide(self, is_signed, is_quotient, d, a, b, w):
+        D, A, B = self.reg(d), self.reg(a), self.reg(b)
+        if not is_signed and is_power(w):
+            self.copy(d, a)
+            self.line("shrl", f"${w.bit_length() - 1}", D) if is_quotient else self.line("andl", f"${signed(w - 1)}", D)
+            return
         if w is None or w == 0 or is_signed and w == 2**32 - 1:
             self.tested(b, 0, "e")
             if is_signed:
@@ -216,7 +222,8 @@ class Writer:
 
     def do_operator(self, op, d, arguments):
         self.operator(op, d, arguments[0], arguments[1] if len(arguments) > 1 else None)
-        flag = "e" if op == "IsZero" else "ne" if op in ("And", "Or", "Xor") else CC.get(op)
+        masked = op == "ModU" and is_power(self.words.get(arguments[1]))
+        flag = "e" if op == "IsZero" else "ne" if masked or op in ("And", "Or", "Xor") else CC.get(op)
         self.words.pop(d, None)
         self.flag = (d, flag) if flag else None
 

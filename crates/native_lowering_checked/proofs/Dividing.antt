@@ -1,7 +1,9 @@
 -- A division, of which the quotient or the rest is wanted.
-use Rattle.std.proofs.Common.{◌≡◌, ℕ, suc, ◌+◌, ◌-◌, ◌^◌, ◌<◌, ◌≤◌, Bool, true, false, ◌||◌, List, [], ◌∷◌, ◌++◌, length, Option, Some, None, refl, sym, ap, ◌∙◌, arith, length-append}
-use Rattle.std.specs.Prelude.{slice_get, slice_index, slice_set, nat_eq, ◌==◌, if◌then◌else◌}
+use Rattle.std.proofs.Common.{◌≡◌, ℕ, suc, ◌+◌, ◌-◌, ◌/◌, ◌%◌, ◌^◌, ◌<◌, ◌≤◌, Bool, true, false, not, ◌||◌, List, [], ◌∷◌, ◌++◌, length, Option, Some, None, refl, sym, ap, subst, ◌∙◌, arith, length-append}
+use Rattle.std.specs.Prelude.{slice_get, slice_index, slice_set, nat_eq, ◌==◌, if◌then◌else◌, bit_and}
 use Rattle.std.specs.Option.{option_map}
+use Rattle.std.proofs.lemmas.Bool.{false≢true}
+use Rattle.std.proofs.lemmas.Nat.{and_mask}
 use Rattle.std.proofs.lemmas.List.{get_or-set_same, get_or-set_other, length-set}
 use Rattle.ints.specs.declared.operators.Op.{Op}
 use Rattle.lang_base.specs.declared.program.Program.{Program}
@@ -14,21 +16,27 @@ use Rattle.linear_language.specs.declared.instruction.Instruction.TheVariants as
 use Rattle.linear_language.specs.Function.{FunctionData}
 use Rattle.x86_syntax.specs.Registers.{number_of}
 use Rattle.x86_syntax.specs.declared.condition.Condition.TheVariants.{Equal}
+use Rattle.x86_syntax.specs.declared.instruction.Instruction.{Instruction}
 use Rattle.x86_syntax.specs.declared.instruction.Instruction.TheVariants as n
 use Rattle.x86_syntax.specs.declared.operators.Operator.TheVariants as o
+use Rattle.x86_syntax.specs.declared.operators.Shifting.TheVariants.{Shr}
 use Rattle.x86_syntax.specs.declared.operators.Turning.TheVariants as turn
 use Rattle.x86_syntax.specs.declared.register.Register.TheVariants.{Eax, Ecx, Edx}
 use Rattle.x86_state.specs.Registers.{word_in}
-use Rattle.x86_state.specs.State.{State as Native, Goes, does}
-use Rattle.x86_state.specs.Tables.{operated, turned, flags_of, sign_of, divided, divided_unsigned, condition_table}
+use Rattle.x86_state.specs.State.{State as Native, Goes, does, word, put, with_flags}
+use Rattle.x86_state.specs.Tables.{operated, shifted, turned, flags_of, sign_of, divided, divided_unsigned, condition_table}
 use Rattle.x86.specs.Operating.{with_quotient}
-use Rattle.native_lowering_definition.specs.Facts.{Facts, known, flag_behind, left}
+use Rattle.native_lowering_definition.specs.Facts.{Facts, known, flag_left, flag_behind_power, left}
 use Rattle.native_lowering_definition.specs.Kinds.{Divides, kind_of}
 use Rattle.native_lowering_definition.specs.Layout.{facts_in}
 use Rattle.native_lowering_definition.specs.Lowering.{lowered, code_of}
 use Rattle.native_lowering_definition.specs.Locations.{register_of}
-use Rattle.native_lowering_definition.specs.Operating.{Block, divisor, divisor_tested, divisor_tested_signed, divides_by_ecx, divided_in, operates}
-use Rattle.native_lowering_numbers.proofs.Quotients.{tested}
+use Rattle.native_lowering_definition.specs.Operating.{Block, copy, divisor, divisor_tested, divisor_tested_signed, divides_by_ecx, divided_in, divides_by_power, divides_by, operates}
+use Rattle.native_lowering_definition.specs.Powers.{power_known}
+use Rattle.native_lowering_definition.proofs.Powers.{power_is}
+use Rattle.native_lowering_numbers.proofs.Quotients.{tested, unsigned_quotient}
+use Rattle.native_lowering_numbers.proofs.Shifts.{shifted_out}
+use Rattle.native_lowering_relation.specs.Knowing.{Answers}
 use Rattle.native_lowering_relation.specs.Related.{Related}
 use Rattle.native_lowering_relation.proofs.Agreeing.{agree_at, word_is}
 use Rattle.native_lowering_relation.proofs.Knowing.{knows_at, knows_word}
@@ -37,6 +45,7 @@ use Rattle.native_lowering_walks.proofs.Straight.{compare_with_below, stop_if_be
 use Rattle.native_lowering_runs.specs.Reaching.{Reaches}
 use Rattle.native_lowering_runs.proofs.Blocks.{AllBelow, below_then, walks_then}
 use Rattle.native_lowering_runs.proofs.Registers.{number_is}
+use Rattle.native_lowering_operators.proofs.Copying.{LeavesIt, straight_copy, count_copy, copy_walks}
 use Rattle.native_lowering_operators.proofs.Scratched.{not_scratched, one_scratched}
 use Rattle.native_lowering_operators.proofs.Written.{Scratch, written_here, left_with, writes_reaches}
 use Rattle.native_lowering_checked.proofs.Passing.{same_word, goes_past}
@@ -70,6 +79,25 @@ wanted_in true words x high pair full =
 wanted_in false words x high pair full =
     get_or-set_same (slice_set (before_it words x high) 8 pair.0) 10 pair.1 0
     (omega (arith, length-set (before_it words x high) 8 pair.0, length-set (slice_set words 8 x) 10 high, length-set words 8 x, full))
+
+-- the last instruction of a division by 2 ^ k, and the flags behind it
+abbrev last_of : Bool → ℕ → ℕ → Instruction
+last_of true d k = n.Shift Shr (register_of d) k
+last_of false d k = n.DoWith o.And (register_of d) (2 ^ k - 1)
+
+abbrev flags_behind : Bool → ℕ → ℕ → Option (ℕ × ℕ)
+flags_behind true x k = None
+flags_behind false x k = Some (x % 2 ^ k, 0)
+
+power_answers : (quotient : Bool) (d x k : ℕ) (words : List ℕ) → d < length words
+    → Answers (flag_behind_power (Some k) quotient d) (flags_behind quotient x k) (slice_set words d (wanted quotient (x / 2 ^ k, x % 2 ^ k)))
+unfolding condition_table
+power_answers true d x k words within = tt
+power_answers false d x k words within = ap (λ n. not (nat_eq n 0)) (sym (get_or-set_same words d (x % 2 ^ k) 0 within))
+
+power_block : (quotient : Bool) (d a k : ℕ) → divides_by_power quotient d a k ≡ copy d a ++ last_of quotient d k ∷ []
+power_block true d a k = refl
+power_block false d a k = refl
 
 module _ (p : Program FunctionData) (room : Option ℕ) (s : State) (t : Native) (related : Related p s t) where
   abbrev f : FunctionData
@@ -155,8 +183,8 @@ module _ (p : Program FunctionData) (room : Option ℕ) (s : State) (t : Native)
     pub walk : Walk first t (record t { place = t.place + length first; registers = words; flags = flags })
 
   from_ecx : (op : Op) (signed quotient : Bool) (d a b x y : ℕ) (pair : ℕ × ℕ) (first : Block) → kind_of op ≡ Divides signed quotient → slice_get f.code s.place ≡ Some (l.Do (Operate op d (Two a b)))
-      → d < 8 → a < 8 → value_at (InRegister a) s.here ≡ Some x → both_of signed x y ≡ Some pair → divisor signed a b (known b facts) ≡ first → InEcx first y → To d (wanted quotient pair)
-  from_ecx op signed quotient d a b x y pair first kind at near near' left_is result is_it in_ecx =
+      → d < 8 → a < 8 → value_at (InRegister a) s.here ≡ Some x → both_of signed x y ≡ Some pair → power_known (known b facts) signed ≡ None → divisor signed a b (known b facts) ≡ first → InEcx first y → To d (wanted quotient pair)
+  from_ecx op signed quotient d a b x y pair first kind at near near' left_is result none is_it in_ecx =
       let high = high_of signed x in
       let words = behind_it in_ecx.words x high pair in
       let r = wanted quotient pair in
@@ -166,10 +194,10 @@ module _ (p : Program FunctionData) (room : Option ℕ) (s : State) (t : Native)
       let far : t.place + length first + 4 ≡ t.place + suc (length first + 3) = omega arith in
       writes_reaches p room s t related (l.Do (Operate op d (Two a b))) blk (length first + 3) d r None None words (record {
         at = at;
-        is_it = ap (λ k. operates k d (Two a b) facts) kind ∙ ap (λ z. z ++ the_rest signed quotient d a) is_it;
+        is_it = ap (λ k. operates k d (Two a b) facts) kind ∙ ap (λ o. divides_by o signed quotient d a b (known b facts)) none ∙ ap (λ z. z ++ the_rest signed quotient d a) is_it;
         count = count;
         target = refl;
-        leaves = ap (λ k. left d (flag_behind k d) facts) kind;
+        leaves = ap (λ k. left d (flag_left k (Two a b) d facts) facts) kind ∙ ap (λ o. left d (flag_behind_power o quotient d) facts) none;
         straight = below_then first (the_rest signed quotient d a) in_ecx.below (rest_straight signed quotient d a);
         scratch = more (slice_set (before_it in_ecx.words x high) 8 pair.0) 10 pair.1 (omega arith)
             (more (before_it in_ecx.words x high) 8 pair.0 (omega arith) (more (slice_set in_ecx.words 8 x) 10 high (omega arith) (more in_ecx.words 8 x (omega arith) in_ecx.scratch)));
@@ -314,15 +342,16 @@ module _ (p : Program FunctionData) (room : Option ℕ) (s : State) (t : Native)
 
   by_test : (op : Op) (signed quotient : Bool) (d a b x y : ℕ) (pair : ℕ × ℕ) → kind_of op ≡ Divides signed quotient → slice_get f.code s.place ≡ Some (l.Do (Operate op d (Two a b)))
       → d < 8 → a < 8 → b < 8 → value_at (InRegister a) s.here ≡ Some x → value_at (InRegister b) s.here ≡ Some y → both_of signed x y ≡ Some pair → nat_eq y 0 ≡ false → Passes signed x y
-      → divisor signed a b (known b facts) ≡ divisor signed a b None → To d (wanted quotient pair)
-  by_test op true quotient d a b x y pair kind at near near' near'' left_is right_is result some fits is_it =
-      from_ecx op true quotient d a b x y pair (divisor_tested_signed a b) kind at near near' left_is result is_it (signed_in a b x y near' near'' left_is right_is some fits)
-  by_test op false quotient d a b x y pair kind at near near' near'' left_is right_is result some fits is_it =
-      from_ecx op false quotient d a b x y pair (divisor_tested b) kind at near near' left_is result is_it (tested_in b y near'' right_is some)
+      → power_known (known b facts) signed ≡ None → divisor signed a b (known b facts) ≡ divisor signed a b None → To d (wanted quotient pair)
+  by_test op true quotient d a b x y pair kind at near near' near'' left_is right_is result some fits none is_it =
+      from_ecx op true quotient d a b x y pair (divisor_tested_signed a b) kind at near near' left_is result none is_it (signed_in a b x y near' near'' left_is right_is some fits)
+  by_test op false quotient d a b x y pair kind at near near' near'' left_is right_is result some fits none is_it =
+      from_ecx op false quotient d a b x y pair (divisor_tested b) kind at near near' left_is result none is_it (tested_in b y near'' right_is some)
 
   by_word : (op : Op) (signed quotient : Bool) (d a b x y : ℕ) (pair : ℕ × ℕ) → kind_of op ≡ Divides signed quotient → slice_get f.code s.place ≡ Some (l.Do (Operate op d (Two a b)))
-      → d < 8 → a < 8 → value_at (InRegister a) s.here ≡ Some x → both_of signed x y ≡ Some pair → divisor signed a b (known b facts) ≡ n.Set Ecx y ∷ [] → To d (wanted quotient pair)
-  by_word op signed quotient d a b x y pair kind at near near' left_is result is_it = from_ecx op signed quotient d a b x y pair (n.Set Ecx y ∷ []) kind at near near' left_is result is_it (known_in y)
+      → d < 8 → a < 8 → value_at (InRegister a) s.here ≡ Some x → both_of signed x y ≡ Some pair → power_known (known b facts) signed ≡ None → divisor signed a b (known b facts) ≡ n.Set Ecx y ∷ [] → To d (wanted quotient pair)
+  by_word op signed quotient d a b x y pair kind at near near' left_is result none is_it =
+      from_ecx op signed quotient d a b x y pair (n.Set Ecx y ∷ []) kind at near near' left_is result none is_it (known_in y)
 
   -- the choice where the divisor is known
   abbrev tells : Bool → ℕ → Bool
@@ -333,28 +362,88 @@ module _ (p : Program FunctionData) (room : Option ℕ) (s : State) (t : Native)
   choice true a b w = refl
   choice false a b w = refl
 
+  -- what the facts know is so
+  known_is : (b w : ℕ) → known b facts ≡ Some w → value_at (InRegister b) s.here ≡ Some w
+  known_is b w e = knows_word (known b facts) (value_at (InRegister b) s.here) w (knows_at facts.words s.here.registers b related.known.known) e
+
+  -- ---- by a power of two that is known
+
+  same_pair : (x y : ℕ) (pair : ℕ × ℕ) → nat_eq y 0 ≡ false → both_of false x y ≡ Some pair → (x / y, x % y) ≡ pair
+  same_pair x y pair some result = let same : Some (x / y, x % y) ≡ Some pair = sym (unsigned_quotient x y some) ∙ result in cc
+
+  -- the word that the last instruction leaves
+  abbrev Last : Bool → ℕ → ℕ → ℕ → Type 0
+  Last quotient d x k = LeavesIt (lowered p).functions room (code_of p f) t d d x (wanted quotient (x / 2 ^ k, x % 2 ^ k)) (flags_behind quotient x k) (last_of quotient d k)
+
+  shifted_last : (d x k : ℕ) → d < 8 → k < 32 → Last true d x k
+  shifted_last d x k near few = λ v here others flags.
+      let left_word : word (register_of d) v ≡ x = ap (slice_index v.registers) (number_is d near) ∙ here in
+      ap (λ w. does (option_map (λ q. with_flags None (put (register_of d) q v)) (shifted Shr w k))) left_word
+      ∙ ap (λ q. does (option_map (λ w. with_flags None (put (register_of d) w v)) q)) (shifted_out x k few)
+      ∙ (λ i. Goes (record v { place = v.place + 1; registers = slice_set v.registers (number_is d near i) (x / 2 ^ k); flags = None }))
+
+  masked_last : (d x k : ℕ) → d < 8 → Last false d x k
+  unfolding operated flags_of
+  masked_last d x k near = λ v here others flags.
+      let left_word : word (register_of d) v ≡ x = ap (slice_index v.registers) (number_is d near) ∙ here in
+      let rest : bit_and (word (register_of d) v) (2 ^ k - 1) ≡ x % 2 ^ k = ap (λ w. bit_and w (2 ^ k - 1)) left_word ∙ and_mask x k in
+      λ i. Goes (record v { place = v.place + 1; registers = slice_set v.registers (number_is d near i) (rest i); flags = Some (rest i, 0) })
+
+  last_leaves : (quotient : Bool) (d x k : ℕ) → d < 8 → k < 32 → Last quotient d x k
+  last_leaves true d x k near few = shifted_last d x k near few
+  last_leaves false d x k near few = masked_last d x k near
+
+  by_power : (op : Op) (quotient : Bool) (d a b x k : ℕ) → kind_of op ≡ Divides false quotient → slice_get f.code s.place ≡ Some (l.Do (Operate op d (Two a b)))
+      → d < 8 → a < 8 → value_at (InRegister a) s.here ≡ Some x → power_known (known b facts) false ≡ Some k → k < 32 → To d (wanted quotient (x / 2 ^ k, x % 2 ^ k))
+  by_power op quotient d a b x k kind at near near' left_is power few =
+      let last = last_of quotient d k in
+      let r = wanted quotient (x / 2 ^ k, x % 2 ^ k) in
+      writes_reaches p room s t related (l.Do (Operate op d (Two a b))) (copy d a ++ last ∷ []) (length (copy d a)) d r (flag_behind_power (Some k) quotient d) (flags_behind quotient x k) t.registers (record {
+        at = at;
+        is_it = ap (λ k. operates k d (Two a b) facts) kind ∙ ap (λ o. divides_by o false quotient d a b (known b facts)) power ∙ power_block quotient d a k;
+        count = count_copy d a last;
+        target = refl;
+        leaves = ap (λ k. left d (flag_left k (Two a b) d facts) facts) kind ∙ ap (λ o. left d (flag_behind_power o quotient d) facts) power;
+        straight = straight_copy d a last;
+        scratch = unchanged;
+        answers = power_answers quotient d x k t.registers (omega (arith, near, related.holds.thirteen));
+        walk = copy_walks (lowered p).functions room (code_of p f) t d a x r (flags_behind quotient x k) last near' near related.holds.thirteen (word_here a x left_is) (last_leaves quotient d x k near few);
+      })
+
+  -- the divisor is not known, or no power of two
   with_known : (op : Op) (signed quotient : Bool) (d a b x y : ℕ) (pair : ℕ × ℕ) (k : Option ℕ) → kind_of op ≡ Divides signed quotient → slice_get f.code s.place ≡ Some (l.Do (Operate op d (Two a b)))
       → d < 8 → a < 8 → b < 8 → value_at (InRegister a) s.here ≡ Some x → value_at (InRegister b) s.here ≡ Some y → both_of signed x y ≡ Some pair → nat_eq y 0 ≡ false → Passes signed x y
-      → known b facts ≡ k → To d (wanted quotient pair)
-  with_known op signed quotient d a b x y pair None kind at near near' near'' left_is right_is result some fits e =
-      by_test op signed quotient d a b x y pair kind at near near' near'' left_is right_is result some fits (ap (divisor signed a b) e)
-  with_known op signed quotient d a b x y pair (Some w) kind at near near' near'' left_is right_is result some fits e = by (tells signed w) refl
+      → power_known (known b facts) signed ≡ None → known b facts ≡ k → To d (wanted quotient pair)
+  with_known op signed quotient d a b x y pair None kind at near near' near'' left_is right_is result some fits none e =
+      by_test op signed quotient d a b x y pair kind at near near' near'' left_is right_is result some fits none (ap (divisor signed a b) e)
+  with_known op signed quotient d a b x y pair (Some w) kind at near near' near'' left_is right_is result some fits none e = by (tells signed w) refl
     where
-      so : value_at (InRegister b) s.here ≡ Some w
-      so = knows_word (known b facts) (value_at (InRegister b) s.here) w (knows_at facts.words s.here.registers b related.known.known) e
-
       chosen : (c : Bool) → tells signed w ≡ c → divisor signed a b (known b facts) ≡ (if c then divisor signed a b None else n.Set Ecx w ∷ [])
       chosen c told = ap (divisor signed a b) e ∙ choice signed a b w ∙ ap (λ z. if z then divisor signed a b None else n.Set Ecx w ∷ []) told
 
       by : (c : Bool) → tells signed w ≡ c → To d (wanted quotient pair)
-      by true told = by_test op signed quotient d a b x y pair kind at near near' near'' left_is right_is result some fits (chosen true told)
+      by true told = by_test op signed quotient d a b x y pair kind at near near' near'' left_is right_is result some fits none (chosen true told)
       by false told =
-          let same : w ≡ y = same_word (value_at (InRegister b) s.here) w y so right_is in
-          by_word op signed quotient d a b x y pair kind at near near' left_is result (chosen false told ∙ ap (λ z. n.Set Ecx z ∷ []) same)
+          let same : w ≡ y = same_word (value_at (InRegister b) s.here) w y (known_is b w e) right_is in
+          by_word op signed quotient d a b x y pair kind at near near' left_is result none (chosen false told ∙ ap (λ z. n.Set Ecx z ∷ []) same)
+
+  chosen_by : (op : Op) (signed quotient : Bool) (d a b x y : ℕ) (pair : ℕ × ℕ) (o : Option ℕ) → kind_of op ≡ Divides signed quotient → slice_get f.code s.place ≡ Some (l.Do (Operate op d (Two a b)))
+      → d < 8 → a < 8 → b < 8 → value_at (InRegister a) s.here ≡ Some x → value_at (InRegister b) s.here ≡ Some y → both_of signed x y ≡ Some pair → nat_eq y 0 ≡ false → Passes signed x y
+      → power_known (known b facts) signed ≡ o → To d (wanted quotient pair)
+  chosen_by op signed quotient d a b x y pair None kind at near near' near'' left_is right_is result some fits e =
+      with_known op signed quotient d a b x y pair (known b facts) kind at near near' near'' left_is right_is result some fits e refl
+  chosen_by op true quotient d a b x y pair (Some k) kind at near near' near'' left_is right_is result some fits e =
+      let so = power_is (known b facts) true k e in
+      absurd (false≢true (sym so.unsigned))
+  chosen_by op false quotient d a b x y pair (Some k) kind at near near' near'' left_is right_is result some fits e =
+      let so = power_is (known b facts) false k e in
+      let same : 2 ^ k ≡ y = same_word (value_at (InRegister b) s.here) (2 ^ k) y (known_is b (2 ^ k) so.word) right_is in
+      subst (λ z. To d (wanted quotient z)) ((λ i. (x / same i, x % same i)) ∙ same_pair x y pair some result)
+      (by_power op quotient d a b x k kind at near near' left_is e so.below)
 
   -- the quotient or the rest, where the tests pass
   pub divides_reaches : (op : Op) (signed quotient : Bool) (d a b x y : ℕ) (pair : ℕ × ℕ) → kind_of op ≡ Divides signed quotient → slice_get f.code s.place ≡ Some (l.Do (Operate op d (Two a b)))
       → d < 8 → a < 8 → b < 8 → value_at (InRegister a) s.here ≡ Some x → value_at (InRegister b) s.here ≡ Some y → both_of signed x y ≡ Some pair → nat_eq y 0 ≡ false → Passes signed x y
       → To d (wanted quotient pair)
   divides_reaches op signed quotient d a b x y pair kind at near near' near'' left_is right_is result some fits =
-      with_known op signed quotient d a b x y pair (known b facts) kind at near near' near'' left_is right_is result some fits refl
+      chosen_by op signed quotient d a b x y pair (power_known (known b facts) signed) kind at near near' near'' left_is right_is result some fits refl

@@ -19,7 +19,7 @@ use Rattle.x86_syntax.specs.declared.operators.Shifting.{Shifting}
 use Rattle.x86_syntax.specs.declared.register.Register.TheVariants.{Eax, Ecx}
 use Rattle.x86_state.specs.State.{State as Native, Goes, does, word, put, with_flags}
 use Rattle.x86_state.specs.Tables.{shifted}
-use Rattle.native_lowering_definition.specs.Facts.{Facts, known, flag_behind, left}
+use Rattle.native_lowering_definition.specs.Facts.{Facts, known, flag_left, left}
 use Rattle.native_lowering_definition.specs.Kinds.{Shifts, kind_of}
 use Rattle.native_lowering_definition.specs.Layout.{facts_in}
 use Rattle.native_lowering_definition.specs.Lowering.{lowered, code_of}
@@ -59,7 +59,7 @@ module _ (p : Program FunctionData) (room : Option ℕ) (s : State) (t : Native)
         is_it = ap (λ k. operates k d (Two a b) facts) kind ∙ is_it;
         count = count;
         target = refl;
-        leaves = ap (λ k. left d (flag_behind k d) facts) kind;
+        leaves = ap (λ k. left d (flag_left k (Two a b) d facts) facts) kind;
         straight = straight;
         scratch = scratch;
         answers = tt;

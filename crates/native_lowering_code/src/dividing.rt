@@ -1,14 +1,15 @@
 //! The blocks of divisions.
 
-ghost use Rattle.std.specs.Prelude.{◌≡◌};
-ghost use Rattle.native_lowering_definition.specs.Operating.{divisor_tested, divisor_tested_signed, divisor, divided_in, divides};
+ghost use Rattle.std.specs.Prelude.{◌≡◌, ◌<◌};
+ghost use Rattle.native_lowering_definition.specs.Operating.{divisor_tested, divisor_tested_signed, divisor, divided_in, divides_by_power, divides};
 ghost use Rattle.native_lowering_code.specs.Adding.{Adds};
 ghost use Rattle.native_lowering_code.specs.Dividing.{divided};
 
-use crate::adding::add;
+use crate::adding::{add, add_copied};
+use crate::powers::power_known;
 use crate::registers::register_of;
 use lang_base::NoMemory;
-use x86_syntax::{Condition, Instruction, Operator, Register, Turning};
+use x86_syntax::{Condition, Instruction, Operator, Register, Shifting, Turning};
 
 fn add_tested(out: &mut Vec<Instruction>, b: u8) -> Result<(), NoMemory>
     ensures { Adds result (divisor_tested b) out.old.items out.new.items }
@@ -156,6 +157,27 @@ fn add_divided(
     add(out, &[first, high, Instruction::DivideU { divisor }, last])
 }
 
+/// D becomes the quotient of A and 2 ^ k, or the rest.
+fn add_divided_by_power(
+    out: &mut Vec<Instruction>,
+    quotient: bool,
+    d: u8,
+    a: u8,
+    k: u32,
+) -> Result<(), NoMemory>
+    requires { k < 32 }
+    ensures { Adds result (divides_by_power quotient d a k) out.old.items out.new.items }
+{
+    let target = register_of(d);
+    if quotient {
+        let (op, count) = (Shifting::Shr, k);
+        add_copied(out, d, a, Instruction::Shift { op, target, count })
+    } else {
+        let (op, word) = (Operator::And, (1 << k) - 1);
+        add_copied(out, d, a, Instruction::DoWith { op, target, word })
+    }
+}
+
 pub(crate) fn add_division(
     out: &mut Vec<Instruction>,
     signed: bool,
@@ -167,6 +189,11 @@ pub(crate) fn add_division(
 ) -> Result<(), NoMemory>
     ensures { Adds result (divides signed quotient d a b known) out.old.items out.new.items }
 {
-    add_divisor(out, signed, a, b, known)?;
-    add_divided(out, signed, quotient, d, a)
+    match power_known(known, signed) {
+        Some(k) => add_divided_by_power(out, quotient, d, a, k),
+        None => {
+            add_divisor(out, signed, a, b, known)?;
+            add_divided(out, signed, quotient, d, a)
+        }
+    }
 }

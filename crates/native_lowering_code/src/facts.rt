@@ -1,10 +1,11 @@
 //! What is known before an instruction.
 
 ghost use Rattle.std.specs.Prelude.{◌≡◌, None, slice_index_or, slice_set};
-ghost use Rattle.native_lowering_definition.specs.Facts.{no_facts, known, unless, set, left, without_flag, flag_behind, written, after_act, after_move, answer_of, answered, after_test, after};
+ghost use Rattle.native_lowering_definition.specs.Facts.{no_facts, known, unless, set, left, without_flag, flag_behind, flag_behind_power, flag_left, written, after_act, after_move, answer_of, answered, after_test, after};
 ghost use Rattle.native_lowering_code.specs.Kinds.{kind_in};
 
 use crate::kinds::{Kind, kind_of};
+use crate::powers::power_known;
 use ints::Cond;
 use linear_language::Instruction;
 use locations::Location;
@@ -144,10 +145,45 @@ fn written(target: Option<u8>, facts: &Facts) -> Facts
     }
 }
 
-fn after_operator(kind: Kind, target: u8, facts: &Facts) -> Facts
-    ensures { result ≡ left target (flag_behind (kind_in kind) target) facts.now }
+/// What a division leaves known of the flags where its divisor is 2 ^ k.
+fn flag_behind_power(power: Option<u32>, quotient: bool, d: u8) -> Flag
+    ensures { result ≡ flag_behind_power power quotient d }
 {
-    left(target, flag_behind(kind, target), facts)
+    match power {
+        None => None,
+        Some(_) => {
+            if quotient {
+                None
+            } else {
+                Some((d, Condition::NotEqual))
+            }
+        }
+    }
+}
+
+/// What an operator with these arguments leaves known of the flags.
+fn flag_left(kind: Kind, arguments: Arguments, d: u8, facts: &Facts) -> Flag
+    ensures { result ≡ flag_left (kind_in kind) arguments d facts.now }
+{
+    match kind {
+        Kind::Divides(signed, quotient) => match arguments {
+            Arguments::One(_) => None,
+            Arguments::Two(_, b) => {
+                flag_behind_power(power_known(facts.known(b), signed), quotient, d)
+            }
+        },
+        Kind::Turns(_) => flag_behind(kind, d),
+        Kind::Makes(_) => flag_behind(kind, d),
+        Kind::Shifts(_) => flag_behind(kind, d),
+        Kind::Compares(_) => flag_behind(kind, d),
+        Kind::AsksZero => flag_behind(kind, d),
+    }
+}
+
+fn after_operator(kind: Kind, arguments: Arguments, target: u8, facts: &Facts) -> Facts
+    ensures { result ≡ left target (flag_left (kind_in kind) arguments target facts.now) facts.now }
+{
+    left(target, flag_left(kind, arguments, target, facts), facts)
 }
 
 fn after_act(act: Act, facts: &Facts) -> Facts
@@ -155,7 +191,11 @@ fn after_act(act: Act, facts: &Facts) -> Facts
 {
     match act {
         Act::Constant { target, word } => set(target, Some(word), facts),
-        Act::Operate { op, target, .. } => after_operator(kind_of(op), target, facts),
+        Act::Operate {
+            op,
+            target,
+            arguments,
+        } => after_operator(kind_of(op), arguments, target, facts),
         Act::Load { target, .. } => left(target, None, facts),
         Act::Store { .. } => without_flag(facts),
         Act::Put { target, .. } => written(target, facts),

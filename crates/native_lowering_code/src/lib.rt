@@ -8,6 +8,7 @@ mod dividing;
 mod facts;
 mod kinds;
 mod operating;
+mod powers;
 mod reaching;
 mod registers;
 

@@ -1,12 +1,12 @@
 //! The blocks of operators.
 
-ghost use Rattle.std.specs.Prelude.{◌≡◌, ◌++◌, [], ◌∷◌};
+ghost use Rattle.std.specs.Prelude.{◌≡◌};
 ghost use Rattle.machine.specs.declared.arguments.Arguments.TheVariants.{One, Two};
-ghost use Rattle.native_lowering_definition.specs.Operating.{copy, makes_in_second, makes, shifts_tested, shifts, compare, operates};
+ghost use Rattle.native_lowering_definition.specs.Operating.{makes_in_second, makes, shifts_tested, shifts, compare, operates};
 ghost use Rattle.native_lowering_code.specs.Adding.{Adds};
 ghost use Rattle.native_lowering_code.specs.Kinds.{kind_in};
 
-use crate::adding::add;
+use crate::adding::{add, add_copied};
 use crate::dividing::add_division;
 use crate::facts::Facts;
 use crate::kinds::Kind;
@@ -14,17 +14,6 @@ use crate::registers::register_of;
 use lang_base::NoMemory;
 use machine::Arguments;
 use x86_syntax::{Condition, Instruction, Operator, Register, Shifting};
-
-/// D becomes A, unless they are one; then comes another instruction.
-fn add_copied(out: &mut Vec<Instruction>, d: u8, a: u8, last: Instruction) -> Result<(), NoMemory>
-    ensures { Adds result (copy d a ++ last ∷ []) out.old.items out.new.items }
-{
-    if a == d {
-        return add(out, &[last]);
-    }
-    let (target, source) = (register_of(d), register_of(a));
-    add(out, &[Instruction::Copy { target, source }, last])
-}
 
 /// B is D, and A is not.
 fn add_in_second(out: &mut Vec<Instruction>, op: Operator, d: u8, a: u8) -> Result<(), NoMemory>

@@ -1,6 +1,6 @@
 -- What is known before an instruction: the words of some registers, and of at most one register that it is not 0 exactly where a
 -- condition holds of the flags.
-use Rattle.std.specs.Prelude.{ℕ, ◌==◌, Bool, List, Option, Some, None, if◌then◌else◌, replicate, slice_index_or, slice_set}
+use Rattle.std.specs.Prelude.{ℕ, ◌==◌, Bool, true, false, List, Option, Some, None, if◌then◌else◌, replicate, slice_index_or, slice_set}
 use Rattle.ints.specs.declared.conditions.Cond.{Cond}
 use Rattle.ints.specs.declared.conditions.Cond.TheVariants.{Nz}
 use Rattle.x86_syntax.specs.declared.condition.Condition.{Condition}
@@ -11,11 +11,12 @@ use Rattle.locations.specs.declared.location.Location.TheVariants.{InRegister, I
 use Rattle.machine.specs.declared.act.Act.{Act}
 use Rattle.machine.specs.declared.act.Act.TheVariants.{Constant, Operate, Load, Store, Put}
 use Rattle.machine.specs.declared.arguments.Arguments.{Arguments}
-use Rattle.machine.specs.declared.arguments.Arguments.TheVariants.{One}
+use Rattle.machine.specs.declared.arguments.Arguments.TheVariants.{One, Two}
 use Rattle.machine.specs.declared.test.Test.{Test}
 use Rattle.linear_language.specs.declared.instruction.Instruction.{Instruction}
 use Rattle.linear_language.specs.declared.instruction.Instruction.TheVariants.{Do, Copy, Call, Branch, Return, Label, Goto}
 use Rattle.native_lowering_definition.specs.Kinds.{Kind, Turns, Makes, Shifts, Divides, Compares, AsksZero, kind_of}
+use Rattle.native_lowering_definition.specs.Powers.{power_known}
 
 pub record Facts : Type 0 where
   pub words : List (Option ℕ)
@@ -60,13 +61,24 @@ flag_behind (Divides signed quotient) d = None
 flag_behind (Compares condition) d = Some (d, condition)
 flag_behind AsksZero d = Some (d, Equal)
 
+-- what a division leaves where its divisor is 2 ^ k: a rest is masked
+abbrev pub flag_behind_power : Option ℕ → Bool → ℕ → Option (ℕ × Condition)
+flag_behind_power None quotient d = None
+flag_behind_power (Some k) true d = None
+flag_behind_power (Some k) false d = Some (d, NotEqual)
+
+-- the same of an operator with these arguments
+abbrev pub flag_left : Kind → Arguments → ℕ → Facts → Option (ℕ × Condition)
+flag_left (Divides signed quotient) (Two a b) d facts = flag_behind_power (power_known (known b facts) signed) quotient d
+flag_left kind arguments d facts = flag_behind kind d
+
 abbrev pub written : Option ℕ → Facts → Facts
 written None facts = without_flag facts
 written (Some r) facts = left r None facts
 
 abbrev pub after_act : Act → Facts → Facts
 after_act (Constant target word) facts = set target (Some word) facts
-after_act (Operate op target arguments) facts = left target (flag_behind (kind_of op) target) facts
+after_act (Operate op target arguments) facts = left target (flag_left (kind_of op) arguments target facts) facts
 after_act (Load target global index) facts = left target None facts
 after_act (Store global index source) facts = without_flag facts
 after_act (Put source target) facts = written target facts

@@ -1,6 +1,7 @@
 pub mod Locations
 pub mod Kinds
 pub mod Frames
+pub mod Powers
 pub mod Facts
 pub mod Operating
 pub mod Reaching

@@ -8,6 +8,7 @@ use Rattle.x86_syntax.specs.declared.operators.Operator.TheVariants as o
 use Rattle.x86_syntax.specs.declared.operators.Turning.{Turning}
 use Rattle.x86_syntax.specs.declared.operators.Turning.TheVariants as t
 use Rattle.x86_syntax.specs.declared.operators.Shifting.{Shifting}
+use Rattle.x86_syntax.specs.declared.operators.Shifting.TheVariants.{Shr}
 use Rattle.x86_syntax.specs.declared.instruction.Instruction.{Instruction}
 use Rattle.x86_syntax.specs.declared.instruction.Instruction.TheVariants.{Copy, Set, Do, DoWith, Turn, Shift, ShiftBy, Extend, Divide, DivideU, Compare, CompareWith, Flag, Stop, StopIf}
 use Rattle.x86_syntax.specs.declared.register.Register.{Register}
@@ -15,6 +16,7 @@ use Rattle.x86_syntax.specs.declared.register.Register.TheVariants.{Eax, Ecx, Ed
 use Rattle.native_lowering_definition.specs.Facts.{Facts, known}
 use Rattle.native_lowering_definition.specs.Kinds.{Kind, Turns, Makes, Shifts, Divides, Compares, AsksZero}
 use Rattle.native_lowering_definition.specs.Locations.{register_of}
+use Rattle.native_lowering_definition.specs.Powers.{power_known}
 
 abbrev pub Block : Type 0
 Block = List Instruction
@@ -71,9 +73,18 @@ abbrev pub divides_by_ecx : Bool → ℕ → Block
 divides_by_ecx true a = Copy Eax (register_of a) ∷ Extend ∷ Divide Ecx ∷ []
 divides_by_ecx false a = Copy Eax (register_of a) ∷ Set Edx 0 ∷ DivideU Ecx ∷ []
 
-abbrev pub divides : Bool → Bool → ℕ → ℕ → ℕ → Option ℕ → Block
-divides signed quotient d a b w =
+-- by 2 ^ k: the quotient is shifted out, the rest is what is left of the bits below
+abbrev pub divides_by_power : Bool → ℕ → ℕ → ℕ → Block
+divides_by_power true d a k = copy d a ++ Shift Shr (register_of d) k ∷ []
+divides_by_power false d a k = copy d a ++ DoWith o.And (register_of d) (2 ^ k - 1) ∷ []
+
+abbrev pub divides_by : Option ℕ → Bool → Bool → ℕ → ℕ → ℕ → Option ℕ → Block
+divides_by (Some k) signed quotient d a b w = divides_by_power quotient d a k
+divides_by None signed quotient d a b w =
     divisor signed a b w ++ (divides_by_ecx signed a ++ Copy (register_of d) (divided_in quotient) ∷ [])
+
+abbrev pub divides : Bool → Bool → ℕ → ℕ → ℕ → Option ℕ → Block
+divides signed quotient d a b w = divides_by (power_known w signed) signed quotient d a b w
 
 abbrev pub compare : ℕ → ℕ → Option ℕ → Instruction
 compare a b None = Compare (register_of a) (register_of b)

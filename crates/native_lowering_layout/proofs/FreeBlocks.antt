@@ -21,7 +21,8 @@ use Rattle.native_lowering_definition.specs.Blocks.{Around, prints, acts, gets, 
 use Rattle.native_lowering_definition.specs.Facts.{Facts, known, answered}
 use Rattle.native_lowering_definition.specs.Frames.{Frame, size_of, saved_cell}
 use Rattle.native_lowering_definition.specs.Kinds.{Kind, Turns, Makes, Shifts, Divides, Compares, AsksZero, kind_of}
-use Rattle.native_lowering_definition.specs.Operating.{copy, makes_in_second, makes, shifts_tested, shifts, divisor, divides_by_ecx, divides, compare, operates}
+use Rattle.native_lowering_definition.specs.Operating.{copy, makes_in_second, makes, shifts_tested, shifts, divisor, divides_by_ecx, divides_by_power, divides_by, divides, compare, operates}
+use Rattle.native_lowering_definition.specs.Powers.{power_known}
 use Rattle.native_lowering_definition.specs.Reaching.{loads, stores}
 use Rattle.native_lowering_layout.proofs.Free.{IsFree, free_both, free_if, free_copy, free_puts, free_moves, free_passes, free_receives}
 
@@ -57,15 +58,24 @@ free_divisor false a b (Some w) = free_if (w == 0) _ _ (refl, (refl, (refl, tt))
 free_divisor true a b None = (refl, (refl, (refl, (refl, (refl, (refl, (refl, (refl, (refl, tt)))))))))
 free_divisor true a b (Some w) = free_if (w == 0 || w == 2 ^ 32 - 1) _ _ (refl, (refl, (refl, (refl, (refl, (refl, (refl, (refl, (refl, tt))))))))) (refl, tt)
 
-free_divides_by : (signed : Bool) (a : ℕ) → IsFree (divides_by_ecx signed a)
+free_by_ecx : (signed : Bool) (a : ℕ) → IsFree (divides_by_ecx signed a)
 unfolding label_of
-free_divides_by true a = (refl, (refl, (refl, tt)))
-free_divides_by false a = (refl, (refl, (refl, tt)))
+free_by_ecx true a = (refl, (refl, (refl, tt)))
+free_by_ecx false a = (refl, (refl, (refl, tt)))
+
+free_by_power : (quotient : Bool) (d a k : ℕ) → IsFree (divides_by_power quotient d a k)
+unfolding label_of
+free_by_power true d a k = free_both (copy d a) _ (free_copy d a) (refl, tt)
+free_by_power false d a k = free_both (copy d a) _ (free_copy d a) (refl, tt)
+
+free_divides_by : (o : Option ℕ) (signed quotient : Bool) (d a b : ℕ) (w : Option ℕ) → IsFree (divides_by o signed quotient d a b w)
+unfolding label_of
+free_divides_by (Some k) signed quotient d a b w = free_by_power quotient d a k
+free_divides_by None signed quotient d a b w =
+    free_both (divisor signed a b w) _ (free_divisor signed a b w) (free_both (divides_by_ecx signed a) _ (free_by_ecx signed a) (refl, tt))
 
 free_divides : (signed quotient : Bool) (d a b : ℕ) (w : Option ℕ) → IsFree (divides signed quotient d a b w)
-unfolding label_of
-free_divides signed quotient d a b w =
-    free_both (divisor signed a b w) _ (free_divisor signed a b w) (free_both (divides_by_ecx signed a) _ (free_divides_by signed a) (refl, tt))
+free_divides signed quotient d a b w = free_divides_by (power_known w signed) signed quotient d a b w
 
 none_compare : (a b : ℕ) (w : Option ℕ) → label_of (compare a b w) ≡ None
 unfolding label_of

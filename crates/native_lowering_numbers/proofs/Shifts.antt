@@ -1,7 +1,7 @@
 -- Shifts: a count below 32 has an answer, which is the instruction's, and no other has one.
-use Rattle.std.proofs.Common.{◌≡◌, ℕ, ◌^◌, ◌<◌, Bool, true, false, [], ◌∷◌, Option, Some, None, refl, sym, ap, pos}
+use Rattle.std.proofs.Common.{◌≡◌, ℕ, ◌/◌, ◌^◌, ◌<◌, Bool, true, false, [], ◌∷◌, Option, Some, None, refl, sym, ap, pos}
 use Rattle.std.specs.Prelude.{nat_le, if◌then◌else◌}
-use Rattle.std.proofs.lemmas.Bool.{false≢true}
+use Rattle.std.proofs.lemmas.Bool.{false≢true, lt-leb}
 use Rattle.ints.specs.MachineTable.{machine_table}
 use Rattle.ints.specs.declared.operators.Op.TheVariants as op
 use Rattle.ints.proofs.Wrapping.{wrapped-mul_left}
@@ -66,3 +66,8 @@ module _ (x y : ℕ) (many : nat_le 32 y ≡ true) where
   pub signed_right_none : shifted Sar x y ≡ None
   unfolding machine_table
   signed_right_none = none_if (nat_le 32 y) _ many
+
+-- a right shift by so much is a division by a power of two
+pub shifted_out : (x k : ℕ) → k < 32 → shifted Shr x k ≡ Some (x / 2 ^ k)
+unfolding machine_table
+shifted_out x k few = ap (λ b. if b then None else Some (x / 2 ^ k)) (lt-leb 32 k few)

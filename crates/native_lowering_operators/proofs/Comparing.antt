@@ -22,7 +22,7 @@ use Rattle.x86_syntax.specs.declared.register.Register.TheVariants.{Eax}
 use Rattle.x86_state.specs.State.{State as Native, Goes, word}
 use Rattle.x86_state.specs.Tables.{condition_table, with_low_byte}
 use Rattle.x86.specs.Meaning.{instruction_step}
-use Rattle.native_lowering_definition.specs.Facts.{known, flag_behind, left}
+use Rattle.native_lowering_definition.specs.Facts.{known, flag_left, left}
 use Rattle.native_lowering_definition.specs.Kinds.{Kind, Compares, AsksZero, kind_of}
 use Rattle.native_lowering_definition.specs.Layout.{facts_in}
 use Rattle.native_lowering_definition.specs.Lowering.{lowered, code_of}
@@ -58,7 +58,7 @@ module _ (p : Program FunctionData) (room : Option ℕ) (s : State) (t : Native)
   asked_reaches : (o : Op) (arguments : Arguments) (condition : Condition) (first : Instruction) (d x y : ℕ)
       → slice_get related.named.function.code s.place ≡ Some (l.Do (Operate o d arguments)) → d < 8
       → operates (kind_of o) d arguments (facts_in related.named.function s.place) ≡ first ∷ Flag condition (register_of d) ∷ []
-      → flag_behind (kind_of o) d ≡ Some (d, condition) → GoesBelow first
+      → flag_left (kind_of o) arguments d (facts_in related.named.function s.place) ≡ Some (d, condition) → GoesBelow first
       → instruction_step (lowered p).functions room (code_of p related.named.function) t (Some first) ≡ Goes (with_compared p room s t related x y)
       → Reaches p room (record s { place = s.place + 1; here = written_here p room s t related d (flag (condition_table condition x y)) }) t
   asked_reaches o arguments condition first d x y at near is_it behind below goes =
@@ -87,7 +87,7 @@ module _ (p : Program FunctionData) (room : Option ℕ) (s : State) (t : Native)
   compares_reaches o condition d a b x y kind at near near' near'' left_is right_is =
       let facts = facts_in related.named.function s.place in
       asked_reaches o (Two a b) condition (compare a b (known b facts)) d x y at near
-      (ap (λ k. operates k d (Two a b) facts) kind) (ap (λ k. flag_behind k d) kind) (compare_straight a b (known b facts))
+      (ap (λ k. operates k d (Two a b) facts) kind) (ap (λ k. flag_left k (Two a b) d facts) kind) (compare_straight a b (known b facts))
       (compare_goes p room s t related a b x y (known b facts) right_is refl (defined_word p room s t related a x near' left_is) (defined_word p room s t related b y near'' right_is))
 
   pub asks_zero_reaches : (o : Op) (d a x : ℕ) → kind_of o ≡ AsksZero → slice_get related.named.function.code s.place ≡ Some (l.Do (Operate o d (One a)))
@@ -96,5 +96,5 @@ module _ (p : Program FunctionData) (room : Option ℕ) (s : State) (t : Native)
   asks_zero_reaches o d a x kind at near near' defined =
       let facts = facts_in related.named.function s.place in
       asked_reaches o (One a) Equal (CompareWith (register_of a) 0) d x 0 at near
-      (ap (λ k. operates k d (One a) facts) kind) (ap (λ k. flag_behind k d) kind) (compare_with_below (register_of a) 0)
+      (ap (λ k. operates k d (One a) facts) kind) (ap (λ k. flag_left k (One a) d facts) kind) (compare_with_below (register_of a) 0)
       (ap (λ n. Goes (with_compared p room s t related n 0)) (defined_word p room s t related a x near' defined))

@@ -25,7 +25,7 @@ use Rattle.x86_syntax.specs.declared.operators.Operator.TheVariants.{Add, Sub, M
 use Rattle.x86_syntax.specs.declared.register.Register.TheVariants.{Eax}
 use Rattle.x86_state.specs.State.{State as Native, Goes, word}
 use Rattle.x86_state.specs.Tables.{operated, flags_of, condition_table}
-use Rattle.native_lowering_definition.specs.Facts.{Facts, known, flag_behind, left}
+use Rattle.native_lowering_definition.specs.Facts.{Facts, known, flag_behind, flag_left, left}
 use Rattle.native_lowering_definition.specs.Kinds.{Makes, kind_of}
 use Rattle.native_lowering_definition.specs.Layout.{facts_in}
 use Rattle.native_lowering_definition.specs.Lowering.{lowered, code_of}
@@ -118,7 +118,7 @@ module _ (p : Program FunctionData) (room : Option ℕ) (s : State) (t : Native)
         is_it = ap (λ k. operates k d (Two a b) facts) kind ∙ is_it;
         count = count;
         target = refl;
-        leaves = ap (λ k. left d (flag_behind k d) facts) kind;
+        leaves = ap (λ k. left d (flag_left k (Two a b) d facts) facts) kind;
         straight = straight;
         scratch = scratch;
         answers = made_answers op d (operated op x y) words (omega (arith, near, scratch.holds.thirteen));

@@ -15,7 +15,7 @@ use Rattle.x86_syntax.specs.declared.operators.Turning.{Turning}
 use Rattle.x86_syntax.specs.declared.operators.Turning.TheVariants.{Neg, Not}
 use Rattle.x86_state.specs.State.{State as Native, Goes}
 use Rattle.x86_state.specs.Tables.{turned}
-use Rattle.native_lowering_definition.specs.Facts.{flag_behind, left}
+use Rattle.native_lowering_definition.specs.Facts.{flag_left, left}
 use Rattle.native_lowering_definition.specs.Kinds.{Turns, kind_of}
 use Rattle.native_lowering_definition.specs.Layout.{facts_in}
 use Rattle.native_lowering_definition.specs.Lowering.{lowered, code_of}
@@ -53,7 +53,7 @@ module _ (p : Program FunctionData) (room : Option ℕ) (s : State) (t : Native)
         is_it = ap (λ k. operates k d (One a) facts) kind;
         count = count_copy d a (Turn op (register_of d));
         target = refl;
-        leaves = ap (λ k. left d (flag_behind k d) facts) kind;
+        leaves = ap (λ k. left d (flag_left k (One a) d facts) facts) kind;
         straight = straight_copy d a (Turn op (register_of d));
         scratch = not_scratched f s.here.registers s.here.slots related.held t.registers related.holds;
         answers = tt;

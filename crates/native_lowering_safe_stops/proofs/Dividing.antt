@@ -24,7 +24,9 @@ use Rattle.native_lowering_definition.specs.Kinds.{Divides, kind_of}
 use Rattle.native_lowering_definition.specs.Layout.{facts_in}
 use Rattle.native_lowering_definition.specs.Locations.{register_of}
 use Rattle.native_lowering_definition.specs.Lowering.{code_of, lowered}
-use Rattle.native_lowering_definition.specs.Operating.{Block, divisor, divides_by_ecx, divided_in, operates}
+use Rattle.native_lowering_definition.specs.Operating.{Block, divisor, divides_by_ecx, divided_in, divides_by, operates}
+use Rattle.native_lowering_definition.specs.Powers.{power_known}
+use Rattle.native_lowering_definition.proofs.Powers.{none_at_zero}
 use Rattle.native_lowering_numbers.proofs.Quotients.{tested}
 use Rattle.native_lowering_relation.specs.Related.{Related}
 use Rattle.native_lowering_walks.specs.Walks.{then as onward, walks}
@@ -65,6 +67,12 @@ module _ (p : Program FunctionData) (s : State) (t : Native) (related : Related 
       choice signed a b w
       ∙ ap (λ c. if c then divisor signed a b None else n.Set Ecx w ∷ []) (ap (tells signed) (sym (known_word p s t related defined b w near e)) ∙ told)
 
+  -- and then it is no power of two
+  no_power : (signed : Bool) (b : ℕ) (k : Option ℕ) → b < 8 → tells signed (word_at b) ≡ true → known b facts ≡ k → power_known k signed ≡ None
+  no_power signed b None near told e = refl
+  no_power true b (Some w) near told e = refl
+  no_power false b (Some w) near told e = none_at_zero w (ap (tells false) (sym (known_word p s t related defined b w near e)) ∙ told)
+
   abbrev the_rest : Bool → Bool → ℕ → ℕ → Block
   the_rest signed quotient d a = divides_by_ecx signed a ++ n.Copy (register_of d) (divided_in quotient) ∷ []
 
@@ -74,7 +82,9 @@ module _ (p : Program FunctionData) (s : State) (t : Native) (related : Related 
   block_is : (op : Op) (signed quotient : Bool) (d a b : ℕ) → kind_of op ≡ Divides signed quotient → b < 8 → tells signed (word_at b) ≡ true
       → operates (kind_of op) d (Two a b) facts ≡ divisor signed a b None ++ the_rest signed quotient d a
   block_is op signed quotient d a b kind near told =
-      ap (λ k. operates k d (Two a b) facts) kind ∙ ap (λ (b : Block). b ++ the_rest signed quotient d a) (is_tested signed a b (known b facts) near told refl)
+      ap (λ k. operates k d (Two a b) facts) kind
+      ∙ ap (λ o. divides_by o signed quotient d a b (known b facts)) (no_power signed b (known b facts) near told refl)
+      ∙ ap (λ (b : Block). b ++ the_rest signed quotient d a) (is_tested signed a b (known b facts) near told refl)
 
   -- by 0
   zero_stops : (op : Op) (signed quotient : Bool) (d a b : ℕ) → kind_of op ≡ Divides signed quotient → At op d a b → b < 8 → nat_eq (word_at b) 0 ≡ true → Halts (lowered p).functions t

@@ -1,6 +1,7 @@
 -- The words in each block have 32 bits, where those that are known have.
-use Rattle.std.proofs.Common.{ℕ, ◌+◌, ◌-◌, ◌^◌, Bool, true, false, List, [], ◌∷◌, length, Option, Some, None, refl, lit<}
+use Rattle.std.proofs.Common.{◌≡◌, ℕ, ◌+◌, ◌-◌, ◌^◌, ◌<◌, Bool, true, false, List, [], ◌∷◌, length, Option, Some, None, refl, lit<, arith}
 use Rattle.std.specs.Prelude.{if◌then◌else◌, ◌==◌, ◌&&◌, ◌||◌, not, nat_lt}
+use Rattle.std.proofs.lemmas.Nat.{pow_below}
 use Rattle.ints.specs.declared.conditions.Cond.{Cond}
 use Rattle.ints.specs.declared.conditions.Cond.TheVariants.{Nz, Eq, Ne, LtS, LtU, LeS, LeU}
 use Rattle.locations.specs.declared.location.Location.{Location}
@@ -21,8 +22,10 @@ use Rattle.native_lowering_definition.specs.Blocks.{Around, prints, acts, gets, 
 use Rattle.native_lowering_definition.specs.Facts.{Facts, known, answered}
 use Rattle.native_lowering_definition.specs.Frames.{Frame, size_of, saved_cell}
 use Rattle.native_lowering_definition.specs.Kinds.{Kind, Turns, Makes, Shifts, Divides, Compares, AsksZero, kind_of}
-use Rattle.native_lowering_definition.specs.Operating.{copy, makes_in_second, makes, shifts_tested, shifts, divisor_tested_signed, divisor, divides_by_ecx, divides, compare, operates}
+use Rattle.native_lowering_definition.specs.Operating.{copy, makes_in_second, makes, shifts_tested, shifts, divisor_tested_signed, divisor, divides_by_ecx, divides_by_power, divides_by, divides, compare, operates}
+use Rattle.native_lowering_definition.specs.Powers.{power_known}
 use Rattle.native_lowering_definition.specs.Reaching.{loads, stores}
+use Rattle.native_lowering_definition.proofs.Powers.{power_is}
 use Rattle.native_lowering_ranges.specs.Range.{AreWords}
 use Rattle.native_lowering_ranges.proofs.Words.{IsWord}
 use Rattle.native_lowering_safe_words.specs.Narrow.{IsNarrow, AreNarrow}
@@ -58,13 +61,21 @@ narrow_divisor false a b (Some w) small = narrow_if (w == 0) _ _ (tt, (tt, (tt, 
 narrow_divisor true a b None small = narrow_tested a b
 narrow_divisor true a b (Some w) small = narrow_if (w == 0 || w == 2 ^ 32 - 1) _ _ (narrow_tested a b) (small w refl, tt)
 
-narrow_divides_by : (signed : Bool) (a : ℕ) → AreNarrow (divides_by_ecx signed a)
-narrow_divides_by true a = (tt, (tt, (tt, tt)))
-narrow_divides_by false a = (tt, (lit< tt, (tt, tt)))
+narrow_by_ecx : (signed : Bool) (a : ℕ) → AreNarrow (divides_by_ecx signed a)
+narrow_by_ecx true a = (tt, (tt, (tt, tt)))
+narrow_by_ecx false a = (tt, (lit< tt, (tt, tt)))
+
+narrow_by_power : (quotient : Bool) (d a k : ℕ) → k < 32 → AreNarrow (divides_by_power quotient d a k)
+narrow_by_power true d a k small = narrow_both (copy d a) _ (narrow_copy d a) (omega (arith, small), tt)
+narrow_by_power false d a k small = narrow_both (copy d a) _ (narrow_copy d a) (omega (arith, pow_below k 32 small), tt)
+
+narrow_divides_by : (o : Option ℕ) (signed quotient : Bool) (d a b : ℕ) (w : Option ℕ) → ((k : ℕ) → o ≡ Some k → k < 32) → IsWord w → AreNarrow (divides_by o signed quotient d a b w)
+narrow_divides_by (Some k) signed quotient d a b w low small = narrow_by_power quotient d a k (low k refl)
+narrow_divides_by None signed quotient d a b w low small =
+    narrow_both (divisor signed a b w) _ (narrow_divisor signed a b w small) (narrow_both (divides_by_ecx signed a) _ (narrow_by_ecx signed a) (tt, tt))
 
 narrow_divides : (signed quotient : Bool) (d a b : ℕ) (w : Option ℕ) → IsWord w → AreNarrow (divides signed quotient d a b w)
-narrow_divides signed quotient d a b w small =
-    narrow_both (divisor signed a b w) _ (narrow_divisor signed a b w small) (narrow_both (divides_by_ecx signed a) _ (narrow_divides_by signed a) (tt, tt))
+narrow_divides signed quotient d a b w small = narrow_divides_by (power_known w signed) signed quotient d a b w (λ k e. (power_is w signed k e).below) small
 
 narrow_compare : (a b : ℕ) (w : Option ℕ) → IsNarrow (compare a b w)
 narrow_compare a b None = tt
