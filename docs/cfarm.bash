@@ -9,7 +9,7 @@ _cfarm_options() {
     fsck) echo "--nodes --promise --accept --dir --help" ;;
     exec) echo "--limit --expect --explain --help" ;;
     sim) echo "--svg --help" ;;
-    verify) echo "--program --bundle --help" ;;
+    verify) echo "--program --bundle --native --help" ;;
     emit) echo "--of --seed --help" ;;
     judge) echo "--function --offer --help" ;;
     native) echo "-o --export --help" ;;
@@ -47,7 +47,7 @@ _cfarm() {
     [ "$before" = "=" ] && before=${COMP_WORDS[COMP_CWORD - 2]}
     case $before in
     --dir | --offers) COMPREPLY=($(compgen -d -- "$word")) ;;
-    --program | --bundle | --offer | -o) COMPREPLY=($(compgen -f -- "$word")) ;;
+    --program | --bundle | --native | --offer | -o) COMPREPLY=($(compgen -f -- "$word")) ;;
     --depth | --limit) COMPREPLY=($(compgen -W none -- "$word")) ;;
     --expect | --promise | --accept | --turns | --seed | --function | --export) ;;
     --format | --nodes | --optimise | --of) COMPREPLY=($(compgen -W "$(_cfarm_values "$before")" -- "$word")) ;;

@@ -32,6 +32,7 @@ complete -c cfarm -n '__fish_seen_subcommand_from exec' -l expect -x -d 'the res
 complete -c cfarm -n '__fish_seen_subcommand_from exec' -l explain -d 'where it was stopped'
 complete -c cfarm -n '__fish_seen_subcommand_from sim' -l svg -d 'draw it'
 complete -c cfarm -n '__fish_seen_subcommand_from verify' -l program -r -d 'file of the linked program'
+complete -c cfarm -n '__fish_seen_subcommand_from verify' -l native -r -d 'file of native code'
 complete -c cfarm -n '__fish_seen_subcommand_from emit' -l of -x -a 'cminor rtl ltl linear bundle' -d 'which form'
 complete -c cfarm -n '__fish_seen_subcommand_from emit' -l seed -x -d 'seed of the draws'
 complete -c cfarm -n '__fish_seen_subcommand_from judge' -l function -x -d 'name of the function'

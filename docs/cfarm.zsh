@@ -28,7 +28,8 @@ _cfarm() {
     fsck) _arguments $farm '--help' '*:C text:_files' ;;
     exec) _arguments '--limit[instructions at most, or none]:instructions' '--expect[the result that it must have]:result' '--explain[where it was stopped]' '--help' '*:program:_files' ;;
     sim) _arguments '--svg[draw it]' '--help' '*:schedule:_files' ;;
-    verify) _arguments '--program[file of the linked program]:file:_files' '--bundle[file of the bundle]:file:_files' '--help' '*:C text:_files' ;;
+    verify) _arguments '--program[file of the linked program]:file:_files' '--bundle[file of the bundle]:file:_files' \
+        '--native[file of native code]:file:_files' '--help' '*:C text:_files' ;;
     emit) _arguments '--of[which form]:form:(cminor rtl ltl linear bundle)' '--seed[seed of the draws]:seed' '--help' '*:C text:_files' ;;
     judge) _arguments '--function[name of the function]:name' '--offer[file of the offer]:file:_files' '--help' '*:C text:_files' ;;
     native) _arguments '-o[file of the text]:file:_files' '--export[prefix of exported functions]:prefix' '--help' '*:program:_files' ;;

@@ -55,7 +55,7 @@ Numbers, by what is refused:
   301 Refused       an offer that its pass does not accept
   401 Device        402 NotAJournal   403 BadRecord     404 OtherSource   405 Stopped       journals
   406 Full          510 Unsettled     521 OtherRecords  522 CellRefused
-  601 Missing       602 Unchained     603 Names         604 OtherProgram                    links
+  601 Missing       602 Unchained     603 Names         604 OtherProgram  605 OtherText     links
 ";
 
 /// The program, before its commands.

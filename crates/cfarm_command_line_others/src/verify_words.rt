@@ -3,11 +3,12 @@
 ghost use Rattle.std.specs.Prelude.{◌≡◌, IfOk, IfSome, IsNone};
 ghost use Rattle.clap.specs.Words.{found_of, rows_of};
 ghost use Rattle.cfarm_command_line_tasks.specs.declared.task.VerifyPaths.{VerifyPaths};
-ghost use Rattle.cfarm_command_line_tasks.specs.Words.{ArePaths, IsCommand, verify_app};
+ghost use Rattle.cfarm_command_line_tasks.specs.Words.{ArePaths, IsArgument, IsCommand, native_path_rule, verify_app};
 
 use crate::joining::{file, needed, with_argument};
 use cfarm_command_line_tasks::VerifyPaths;
-use clap::{ArgMatches, Command};
+use clap::builder::ValueParser;
+use clap::{Arg, ArgMatches, Command};
 use std::alloc::{AllocError, Global};
 
 /// The option with the linked program.
@@ -15,6 +16,19 @@ const PROGRAM: &str = "program";
 
 /// The option with the bundle.
 const BUNDLE: &str = "bundle";
+
+/// The option with the text of native code.
+const NATIVE: &str = "native";
+
+fn native<'a>(alloc: Global) -> Arg<'a>
+    ensures { IsArgument native_path_rule result }
+{
+    Arg::new(alloc, NATIVE)
+        .long(NATIVE)
+        .value_name("PATH")
+        .help("Also verify this text, that of its native code")
+        .value_parser(ValueParser::NonEmptyString)
+}
 
 /// The command, with its help.
 pub fn verify<'a>(alloc: Global) -> Result<Command<'a>, AllocError>
@@ -27,7 +41,7 @@ pub fn verify<'a>(alloc: Global) -> Result<Command<'a>, AllocError>
         );
     let named = with_argument(Ok(plain), file(alloc, "A C text"));
     let programmed = with_argument(named, needed(alloc, PROGRAM, "PATH", "The linked program"));
-    with_argument(
+    let bundled = with_argument(
         programmed,
         needed(
             alloc,
@@ -35,7 +49,8 @@ pub fn verify<'a>(alloc: Global) -> Result<Command<'a>, AllocError>
             "PATH",
             "The bundle: the written offers that were linked",
         ),
-    )
+    );
+    with_argument(bundled, native(alloc))
 }
 
 /// The files beside the text; none where one is not named, which `clap` refuses.
@@ -49,5 +64,9 @@ pub fn paths_of<'a>(words: &ArgMatches<'a>) -> Option<VerifyPaths<'a>>
     let Some(bundle) = words.get_str(BUNDLE) else {
         return None;
     };
-    Some(VerifyPaths { program, bundle })
+    Some(VerifyPaths {
+        program,
+        bundle,
+        native: words.get_str(NATIVE),
+    })
 }

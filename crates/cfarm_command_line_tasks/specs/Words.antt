@@ -172,8 +172,12 @@ program_rule = needed_rule (codes "program")
 abbrev pub bundle_rule : Rule
 bundle_rule = needed_rule (codes "bundle")
 
+-- where the text of native code stands
+abbrev pub native_path_rule : Rule
+native_path_rule = path_rule (codes "native")
+
 abbrev pub verify_app : App
-verify_app = with_rule (with_rule (with_rule (new_app (codes "verify")) file_rule) program_rule) bundle_rule
+verify_app = with_rule (with_rule (with_rule (with_rule (new_app (codes "verify")) file_rule) program_rule) bundle_rule) native_path_rule
 
 abbrev pub form_rule : Choices → Rule
 form_rule choices = record (choice_rule (codes "of") choices.forms) { required = true }
@@ -357,6 +361,7 @@ form_word Bundle = codes "bundle"
 pub record ArePaths (rows : List Row) (paths : VerifyPaths) : Type 0 where
   pub program : first_of (codes "program") rows ≡ Some paths.program.now
   pub bundle : first_of (codes "bundle") rows ≡ Some paths.bundle.now
+  pub native : IsPath rows (codes "native") paths.native
 
 -- what is found of an offer
 pub record IsOfferAt (rows : List Row) (offer : OfferAt) : Type 0 where

@@ -36,6 +36,8 @@ pub struct VerifyPaths<'a> {
     pub program: &'a str,
     /// The offers that were linked.
     pub bundle: &'a str,
+    /// The text of its native code, where one is given.
+    pub native: Option<&'a str>,
 }
 
 /// A written offer that is judged.

@@ -1,5 +1,5 @@
 -- What the program does that is asked for, with what its file is read as.
-use Rattle.std.specs.Prelude.{◌≡◌, ◌⊎◌, ℕ, List, Bool, Ok, Err}
+use Rattle.std.specs.Prelude.{◌≡◌, ◌⊎◌, ℕ, List, Bool, Ok, Err, option_copied}
 use Rattle.std.specs.declared.io.traits.Write as writing
 use Rattle.cfarm_output.specs.declared.errors.ErrorLines as lines
 use Rattle.cfarm_files.specs.Placing.{KeepsFolder}
@@ -19,7 +19,7 @@ use Rattle.cfarm_program_status.specs.Telling.{Answer, IsToldAs, told}
 use Rattle.cfarm_program_status.specs.Trace.{Changed, Trace}
 use Rattle.cfarm_program_looks.specs.Showing.{Texted}
 use Rattle.cfarm_program_looks.specs.Listing.{Listed}
-use Rattle.cfarm_program_looks.specs.Verifying.{Verified}
+use Rattle.cfarm_program_looks.specs.Vouching.{VerifiedWith}
 use Rattle.cfarm_program_looks.specs.Emitting.{Formed}
 use Rattle.cfarm_program_looks.specs.Judging.{Judged}
 use Rattle.cfarm_fsck_files.specs.Saying.{LookedOver}
@@ -62,7 +62,8 @@ module _ {F H D L : Type 0} (farm : farms.Ghosts F H D L) (files : Changed F) wh
   Comes Show path bytes answer before after = KeepsFiles × Texted bytes answer before after
   Comes task.List path bytes answer before after = KeepsFiles × Listed bytes answer before after
   Comes (Verify paths) path bytes answer before after =
-      KeepsFiles × Verified (farm.files.known files.entry.now) paths.program.now paths.bundle.now bytes answer before after
+      KeepsFiles × VerifiedWith (option_copied paths.native) (farm.files.known files.entry.now) paths.program.now paths.bundle.now bytes
+      answer before after
   Comes (Emit emitted seed) path bytes answer before after = KeepsFiles × Formed bytes emitted seed answer before after
   Comes (Judge offer) path bytes answer before after =
       KeepsFiles × Judged (farm.files.known files.entry.now) offer.function.now offer.path.now bytes answer before after

@@ -166,6 +166,7 @@ pub(crate) fn perform<
             bytes,
             paths.program,
             paths.bundle,
+            paths.native,
             out,
             err,
         ),

@@ -1,3 +1,4 @@
+pub mod NativeStatuses
 pub mod EmitStatuses
 pub mod JudgeStatuses
 pub mod ListStatuses

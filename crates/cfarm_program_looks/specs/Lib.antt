@@ -4,3 +4,4 @@ pub mod Listing
 pub mod Showing
 pub mod Reading
 pub mod Verifying
+pub mod Vouching

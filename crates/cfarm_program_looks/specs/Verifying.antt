@@ -1,10 +1,9 @@
 -- What `verify` comes to, on the bytes of its file: what it wrote, and what it answers.
-use Rattle.std.specs.Prelude.{◌≡◌, ◌⊎◌, ℕ, List, Option, Result}
-use Rattle.cfarm_files.specs.declared.fault.FileFault.{FileFault}
+use Rattle.std.specs.Prelude.{◌≡◌, ◌⊎◌, ℕ, List}
 use Rattle.cfarm_verify.specs.Lines as verify
 use Rattle.cfarm_verify.specs.Told.{HasVerified, IsUnverified, Printed}
 use Rattle.cfarm_verify.specs.declared.error.VerifyError.{VerifyError}
-use Rattle.cfarm_program_status.specs.Reading.{Coming, OnFile}
+use Rattle.cfarm_program_status.specs.Reading.{Coming}
 use Rattle.cfarm_program_status.specs.Telling.{Answer, quiet, told}
 
 -- of the files of these paths
@@ -17,7 +16,3 @@ Proven program_path path text program bundle answer before after =
     (HasVerified text program bundle before after × (answer ≡ quiet))
     ⊎ ((fault : VerifyError) × IsUnverified text program bundle fault × Printed text program bundle fault before after
     × (answer ≡ verify_fault program_path path fault))
-
--- the file of the program is read, then that of the bundle
-abbrev pub Verified : (List ℕ → Option (Result (List ℕ) FileFault)) → (program_path path text : List ℕ) → Coming
-Verified known program_path path text = OnFile known program_path (λ program. OnFile known path (Proven program_path path text program))

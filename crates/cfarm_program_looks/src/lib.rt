@@ -6,6 +6,7 @@ mod judging;
 mod listing;
 mod showing;
 mod verifying;
+mod vouching;
 
 pub use emitting::emit_form;
 pub use judging::judge_offer;

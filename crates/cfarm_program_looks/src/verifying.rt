@@ -1,10 +1,11 @@
-ghost use Rattle.std.specs.Prelude.{◌≤◌};
+ghost use Rattle.std.specs.Prelude.{◌≤◌, option_copied};
 ghost use Rattle.cfarm_verify.specs.Found.{AreSpelled, IsPrepared};
 ghost use Rattle.cfarm_program_looks.specs.Reading.{AreRead, IsReadWith};
-ghost use Rattle.cfarm_program_looks.specs.Verifying.{Proven, Verified};
+ghost use Rattle.cfarm_program_looks.specs.Vouching.{IsProven, VerifiedWith};
 ghost use Rattle.cfarm_program_status.specs.Reading.{Says};
 ghost use Rattle.cfarm_program_status.specs.Trace.{shown};
 
+use crate::vouching::{Claim, verify_claim};
 use cfarm_files::{FileFault, Files};
 use cfarm_output::{ErrorLines, Paced};
 use cfarm_program_status::{tell, tell_unread};
@@ -57,35 +58,39 @@ fn read_files<R: Threads + Sync, F: Files>(
     }
 }
 
-/// Of the text, the program and the bundle.
+/// Of what is claimed.
 #[tactic(auto, using(crate::proofs::VerifyStatuses::in_table))]
-fn verify_bytes<R: Threads + Sync, W: Write, E: ErrorLines>(
+pub(crate) fn verify_bytes<R: Threads + Sync, W: Write, E: ErrorLines>(
     rt: &R,
     alloc: Global,
-    text: &[u8],
-    program_path: &str,
-    program: &[u8],
-    path: &str,
-    bundle: &[u8],
+    claim: Claim<'_>,
     source: Result<Source, SourceFault>,
     forms: Forms,
     out: &mut Paced<W>,
     err: &mut E,
 ) -> u8
-    requires source { IsPrepared text.now source }
-    requires forms { AreSpelled program.now bundle.now forms }
-    ensures does { Says W.contents E.contents (Proven program_path.now path.now text.now program.now bundle.now)
-        (shown result out err) }
+    requires source { IsPrepared claim.text.now source }
+    requires forms { AreSpelled claim.program.now claim.bundle.now forms }
+    ensures does { Says W.contents E.contents (IsProven claim.entry) (shown result out err) }
     ensures table { result ≤ 7 }
 {
-    match verify(rt, alloc, text, program, bundle, source, forms, out) {
+    match verify(
+        rt,
+        alloc,
+        claim.text,
+        claim.program,
+        claim.bundle,
+        source,
+        forms,
+        out,
+    ) {
         Ok(()) => 0,
         Err(fault) => {
             let status = fault.status();
             let line = VerifyLine {
                 fault,
-                program: program_path,
-                bundle: path,
+                program: claim.program_path,
+                bundle: claim.path,
             };
             tell(err, line, status)
         }
@@ -93,7 +98,8 @@ fn verify_bytes<R: Threads + Sync, W: Write, E: ErrorLines>(
 }
 
 /// `verify`: reads the program and then the bundle, and says whether the bundle proves that the program means what the text
-/// means. The text is made ready while the files are read.
+/// means; and whether a text of native code, where one is given, is exactly that of the program. The text is made ready while the first two files
+/// are read.
 pub fn verify_files<R: Threads + Sync, F: Files, W: Write, E: ErrorLines>(
     rt: &R,
     alloc: Global,
@@ -101,10 +107,11 @@ pub fn verify_files<R: Threads + Sync, F: Files, W: Write, E: ErrorLines>(
     text: &[u8],
     program_path: &str,
     path: &str,
+    native: Option<&str>,
     out: &mut Paced<W>,
     err: &mut E,
 ) -> u8
-    ensures does { Says W.contents E.contents (Verified (F.known files.now) program_path.now path.now text.now)
+    ensures does { Says W.contents E.contents (VerifiedWith (option_copied native.entry) (F.known files.now) program_path.now path.now text.now)
         (shown result out err) }
     ensures table { result ≤ 7 }
 {
@@ -120,18 +127,17 @@ pub fn verify_files<R: Threads + Sync, F: Files, W: Write, E: ErrorLines>(
     match read {
         Read::NoProgram(fault) => tell_unread(err, program_path, fault),
         Read::NoBundle(fault) => tell_unread(err, path, fault),
-        Read::Both(program, bundle, forms) => verify_bytes(
-            rt,
-            alloc,
-            text,
-            program_path,
-            &program,
-            path,
-            &bundle,
-            source,
-            forms,
-            out,
-            err,
-        ),
+        Read::Both(program, bundle, forms) => {
+            let bytes = program.as_slice();
+            let offers = bundle.as_slice();
+            let claim = Claim {
+                text,
+                program_path,
+                program: bytes,
+                path,
+                bundle: offers,
+            };
+            verify_claim(rt, alloc, files, claim, native, source, forms, out, err)
+        }
     }
 }

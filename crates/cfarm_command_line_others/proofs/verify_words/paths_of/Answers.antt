@@ -19,4 +19,5 @@ pub returns-clause-some : goal.returns-clause-some
 returns-clause-some c = record {
   program = sym (c.in-Some.ensures ∙ first_value-rows (found_of c.args.words.now) (codes "program"));
   bundle = sym (c.in-Some-get_str.ensures ∙ first_value-rows (found_of c.args.words.now) (codes "bundle"));
+  native = sym (first_value-rows (found_of c.args.words.now) (codes "native")) ∙ sym c.get_str-3.ensures;
 }

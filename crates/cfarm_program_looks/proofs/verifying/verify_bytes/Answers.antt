@@ -12,8 +12,8 @@ returns-in-Ok-clause-does g c = (quiet, inl (c.in-Ok.ensures.verified, refl), (r
 pub returns-in-Err-clause-does : goal.returns-in-Err-clause-does
 returns-in-Err-clause-does g c =
     let fault = c.in-Err.fault in
-    let line = verify_line fault c.args.program_path.now c.args.path.now in (
-      verify_fault c.args.program_path.now c.args.path.now fault,
+    let line = verify_line fault c.args.claim.program_path.now c.args.claim.path.now in (
+      verify_fault c.args.claim.program_path.now c.args.claim.path.now fault,
       inr (fault, c.in-Err.ensures.refused, c.in-Err.ensures.printed, refl),
       told_by _ _ line _ _ _ c.status-status.ensures (c.tell.ensures.told line refl),
     )

@@ -25,8 +25,8 @@ pub returns-in-Both-clause-does : goal.returns-in-Both-clause-does
 returns-in-Both-clause-does g c =
     let known = g.F.Files.known c.args.files.now in
     let read = subst (λ r. AreRead (known c.args.program_path.now) (known c.args.path.now) r) c.in-Both.is c.join-source.ensures.second in
-    let first = rw c.deref.ensures.value at c.verify_bytes.ensures.does in
-    let it = rw c.deref-in-Both.ensures.value at first in
+    let first = rw c.as_slice-bytes.ensures.value at c.verify_claim.ensures.does in
+    let it = rw c.as_slice-offers.ensures.value at first in
     (it.0, (Ok c.in-Both.program.items, read.0, (Ok c.in-Both.bundle.items, read.1, it.1)), it.2)
 
 pub join-source-requires-send-A : goal.join-source-requires-send-A
