@@ -8,7 +8,7 @@ use paxos_core_world::kept::Kept;
 use paxos_core_world::msg::Msg;
 use paxos_core_world::quorum::Quorums;
 use std::alloc::Global;
-use worked_row_files::{numbered, owned};
+use worked_row_files::{fine, numbered, owned, some};
 
 /// A message that a node answers, or `no`.
 fn answer_told(alloc: Global, answer: Option<Msg>) -> Option<String> {
@@ -36,7 +36,7 @@ fn learned_told(alloc: Global, node: &Node) -> Option<String> {
 
 /// The part of a node that has started and promised this ballot, and kept nothing else.
 fn opened_at(ballot: &str) -> Option<Kept> {
-    let ballot = ballot.parse().ok()?;
+    let ballot = fine!(ballot.parse());
     Kept::of(false, ballot, ballot, None)
 }
 
@@ -47,19 +47,19 @@ fn restart_told(
     place: usize,
     given: Option<Kept>,
 ) -> Option<String> {
-    restart(nodes, place, given)?;
-    entries_told(alloc, nodes.get(place)?.kept())
+    some!(restart(nodes, place, given));
+    entries_told(alloc, some!(nodes.get(place)).kept())
 }
 
 /// What the nodes answer to a call.
 fn call_told(alloc: Global, nodes: &mut Vec<Node>, call: &str) -> Option<String> {
-    let (kind, rest) = call.split_once(' ')?;
+    let (kind, rest) = some!(call.split_once(' '));
     let (node, rest) = rest.split_once(' ').unwrap_or((rest, ""));
-    let place: usize = node.parse().ok()?;
+    let place: usize = fine!(node.parse());
     match kind {
         "again" => restart_told(alloc, nodes, place, None),
-        "opened" => restart_told(alloc, nodes, place, Some(opened_at(rest)?)),
-        _ => node_told(alloc, nodes.get_mut(place)?, kind, rest),
+        "opened" => restart_told(alloc, nodes, place, Some(some!(opened_at(rest)))),
+        _ => node_told(alloc, some!(nodes.get_mut(place)), kind, rest),
     }
 }
 
@@ -70,24 +70,24 @@ fn node_told(alloc: Global, node: &mut Node, kind: &str, rest: &str) -> Option<S
         "start" => start_told(alloc, node),
         "propose" => answer_told(alloc, node.propose()),
         "learned" => learned_told(alloc, node),
-        "on" => answer_told(alloc, node.on(&message_of(alloc, rest)?)),
+        "on" => answer_told(alloc, node.on(&some!(message_of(alloc, rest)))),
         _ => None,
     }
 }
 
 /// What the nodes of a room with these quorums answer to the calls.
 fn answers_told(alloc: Global, quorums: Quorums, calls: &str) -> Option<String> {
-    let mut nodes = all_nodes(alloc, quorums)?;
+    let mut nodes = some!(all_nodes(alloc, quorums));
     let mut told = String::new(alloc);
     for call in calls.split(';') {
-        let answer = call_told(alloc, &mut nodes, call)?;
-        write!(told, "{answer};").ok()?;
+        let answer = some!(call_told(alloc, &mut nodes, call));
+        fine!(write!(told, "{answer};"));
     }
     Some(told)
 }
 
 /// What the nodes of a room answer to the calls.
 pub fn calls_told(alloc: Global, question: &str) -> Option<String> {
-    let (sizes, calls) = question.split_once(' ')?;
-    answers_told(alloc, quorums_of(alloc, sizes)?, calls)
+    let (sizes, calls) = some!(question.split_once(' '));
+    answers_told(alloc, some!(quorums_of(alloc, sizes)), calls)
 }

@@ -5,13 +5,13 @@ use paxos_core_theorem::settled::settled;
 use paxos_core_world::kept::Kept;
 use paxos_core_world::quorum::Quorums;
 use std::alloc::Global;
-use worked_row_files::owned;
+use worked_row_files::{fine, owned, some};
 
 /// The numbers of a list with commas between.
 fn entries_of(alloc: Global, text: &str) -> Option<Vec<u32>> {
     let mut all = Vec::new(alloc);
     for word in text.split(',') {
-        all.push(word.parse().ok()?).ok()?;
+        fine!(all.push(fine!(word.parse())));
     }
     Some(all)
 }
@@ -28,14 +28,14 @@ fn part_with(entries: &[u32]) -> Option<Kept> {
 
 /// The part with these entries; none where they are no five numbers, or make no part.
 fn part_of(alloc: Global, text: &str) -> Option<Kept> {
-    part_with(&entries_of(alloc, text)?)
+    part_with(&some!(entries_of(alloc, text)))
 }
 
 /// The parts with semicolons between.
 fn parts_of(alloc: Global, text: &str) -> Option<Vec<Kept>> {
     let mut parts = Vec::new(alloc);
     for part in text.split(';') {
-        parts.push(part_of(alloc, part)?).ok()?;
+        fine!(parts.push(some!(part_of(alloc, part))));
     }
     Some(parts)
 }
@@ -52,12 +52,16 @@ fn settled_with(alloc: Global, parts: &[Kept], quorums: Quorums) -> Option<Strin
 pub fn settled_told(alloc: Global, text: &str) -> Option<String> {
     match text.split_once(' ') {
         Some((sizes, text)) => {
-            settled_with(alloc, &parts_of(alloc, text)?, quorums_of(alloc, sizes)?)
+            settled_with(
+                alloc,
+                &some!(parts_of(alloc, text)),
+                some!(quorums_of(alloc, sizes)),
+            )
         }
         None => {
-            let parts = parts_of(alloc, text)?;
-            let nodes = u8::try_from(parts.len()).ok()?;
-            settled_with(alloc, &parts, Quorums::majorities(nodes)?)
+            let parts = some!(parts_of(alloc, text));
+            let nodes = fine!(u8::try_from(parts.len()));
+            settled_with(alloc, &parts, some!(Quorums::majorities(nodes)))
         }
     }
 }

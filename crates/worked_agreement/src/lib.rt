@@ -9,11 +9,6 @@
 //! | `steps SIZES STEPS` | of each step in turn, the message that it sends, or `yes` where it sends none, or `no` where it is not allowed |
 //! | `random SIZES STREAMS TURNS` | `learned`, where in more than half of the schedules a value is, and each call is a step that the reference allows, or none where it allows none |
 //! | `alike SIZES STREAMS TURNS` | `alike`, where the same holds of each call, whether a value is learned or not |
-//! | `simulated SCHEDULE` | what a schedule prints, and the line of its refusal, `-` for none; both texts in hex |
-//! | `settle INPUT OUTPUT ..` | `agreed`, where `settle` prints one of the outputs |
-//! | `refused INPUT` | the status and the line of a refusal by `settle`, which prints nothing |
-//! | `near INPUT` | `well`, where on each strict front of the input, and each change of one byte of it, `settle` prints what is settled or refuses the form and prints nothing |
-//! | `noise COUNT` | `well` likewise, of so many random inputs |
 //!
 //! Sizes of quorums are `NODES,PROMISE,ACCEPT`, or `NODES` where both kinds are more than half of the nodes.
 //!
@@ -28,23 +23,16 @@ mod kept_parts;
 mod nodes;
 mod rows;
 mod schedules;
-mod settle;
-mod simulated;
 mod steps;
 mod words;
 
-use crate::rows::{Rows, tell_settle};
+use crate::rows::Rows;
 use std::io;
-use std::sync::Wait;
-use std::thread::Threads;
-use worked_row_files::compare;
+use worked_row_files::{compare, done};
 
-/// Asks for each row of the files that lie beside the program, and tells how many agree. Nodes that settle take threads.
-pub fn tell<R: Threads + Wait>(rt: &HostRuntime, threads: &R) -> io::Result<()> {
-    compare(rt, "settled.txt", &mut Rows)?;
-    compare(rt, "settled-sizes.txt", &mut Rows)?;
-    compare(rt, "protocol.txt", &mut Rows)?;
-    tell_settle(rt, threads, "settle.txt")?;
-    compare(rt, "schedules.txt", &mut Rows)?;
-    compare(rt, "schedules-sizes.txt", &mut Rows)
+/// Asks for each row of the files that lie beside the program, and tells how many agree.
+pub fn tell(rt: &HostRuntime) -> io::Result<()> {
+    done!(compare(rt, "settled.txt", &mut Rows));
+    done!(compare(rt, "settled-sizes.txt", &mut Rows));
+    compare(rt, "protocol.txt", &mut Rows)
 }

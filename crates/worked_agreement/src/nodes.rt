@@ -4,12 +4,13 @@ use paxos_core::Node;
 use paxos_core_world::kept::Kept;
 use paxos_core_world::quorum::Quorums;
 use std::alloc::Global;
+use worked_row_files::fine;
 
 /// All nodes of a room with these quorums.
 pub fn all_nodes(alloc: Global, quorums: Quorums) -> Option<Vec<Node>> {
     let mut nodes = Vec::new(alloc);
     for me in 0..quorums.nodes() {
-        nodes.push(Node::new(me, quorums)).ok()?;
+        fine!(nodes.push(Node::new(me, quorums)));
     }
     Some(nodes)
 }

@@ -13,7 +13,7 @@ use paxos_reference::world::World;
 use rand_core::utils::NextWord;
 use rand_pcg::Pcg32;
 use std::alloc::Global;
-use worked_row_files::{numbered, owned};
+use worked_row_files::{fine, numbered, owned, some};
 
 /// A call of a node, but a restart.
 #[derive(Clone, Copy)]
@@ -44,11 +44,11 @@ struct Room {
 impl Room {
     fn new(alloc: Global, quorums: Quorums) -> Option<Room> {
         let parts = [Kept::nothing(); 7];
-        let parts = parts.get(..usize::from(quorums.nodes()))?;
+        let parts = some!(parts.get(..usize::from(quorums.nodes())));
         Some(Room {
             quorums,
-            nodes: all_nodes(alloc, quorums)?,
-            world: World::opening(alloc, parts, quorums).ok()?,
+            nodes: some!(all_nodes(alloc, quorums)),
+            world: fine!(World::opening(alloc, parts, quorums)),
             learned: None,
         })
     }
@@ -58,7 +58,7 @@ impl Room {
         if !self.world.allows(&label) {
             return None;
         }
-        self.world.take(&label).ok()?;
+        fine!(self.world.take(&label));
         match label {
             Label::Learns(_, value) if *self.learned.get_or_insert(value) != value => None,
             _ => Some(()),
@@ -67,13 +67,13 @@ impl Room {
 
     /// Makes a call of a node, if the reference agrees with what it does and answers, and with what is kept.
     fn call(&mut self, place: usize, call: Call) -> Option<()> {
-        let node = self.nodes.get_mut(place)?;
+        let node = some!(self.nodes.get_mut(place));
         let me = node.me();
         let (answer, taken) = answer_of(node, call);
         let kept = node.kept();
         match taken {
-            Some(label) => self.step(label)?,
-            None => self.is_allowed_none(step_asked(me, call))?,
+            Some(label) => some!(self.step(label)),
+            None => some!(self.is_allowed_none(step_asked(me, call))),
         }
         let is_sent = answer.is_none() || self.world.sent.first().copied() == answer;
         let is_kept = self.world.nodes.get(place).copied() == Some(kept);
@@ -89,22 +89,22 @@ impl Room {
     }
 
     fn restart(&mut self, place: usize) -> Option<()> {
-        let me = self.nodes.get(place)?.me();
-        restart(&mut self.nodes, place, None)?;
+        let me = some!(self.nodes.get(place)).me();
+        some!(restart(&mut self.nodes, place, None));
         self.step(Label::Restarts(me))
     }
 
     /// All nodes restart, and the messages are forgotten but for those that the kept parts show.
     fn reopen(&mut self, alloc: Global) -> Option<()> {
         for place in 0..self.nodes.len() {
-            self.restart(place)?;
+            some!(self.restart(place));
         }
         let parts = &self.world.nodes;
         let quorums = self.quorums;
         if parts.len() != usize::from(quorums.nodes()) || !settled(parts, quorums) {
             return None;
         }
-        self.world = World::opening(alloc, parts, quorums).ok()?;
+        self.world = fine!(World::opening(alloc, parts, quorums));
         Some(())
     }
 
@@ -185,9 +185,9 @@ fn place_below(draws: &mut Pcg32, count: usize) -> usize {
 /// Plays one schedule of so many turns, if the nodes and the reference agree in all. Whether a value was learned.
 fn play(alloc: Global, quorums: Quorums, stream: u64, turns: u16) -> Option<bool> {
     let mut words = Pcg32::new(1, stream);
-    let mut room = Room::new(alloc, quorums)?;
+    let mut room = some!(Room::new(alloc, quorums));
     for _ in 0..turns {
-        room.turn(alloc, &mut words)?;
+        some!(room.turn(alloc, &mut words));
     }
     Some(room.learned.is_some())
 }
@@ -208,17 +208,17 @@ fn played(alloc: Global, quorums: Quorums, streams: u16, turns: u16) -> Result<u
 
 /// The quorums of the sizes that are asked for, how many schedules, and of how many turns each.
 fn asked(alloc: Global, question: &str) -> Option<(Quorums, u16, u16)> {
-    let (sizes, counts) = question.split_once(' ')?;
-    let counts = numbers(alloc, counts, ' ')?;
+    let (sizes, counts) = some!(question.split_once(' '));
+    let counts = some!(numbers(alloc, counts, ' '));
     match counts.as_slice() {
-        [streams, turns] => Some((quorums_of(alloc, sizes)?, *streams, *turns)),
+        [streams, turns] => Some((some!(quorums_of(alloc, sizes)), *streams, *turns)),
         _ => None,
     }
 }
 
 /// What is told of random schedules: whether in more than half of them a value is learned.
 pub fn random_told(alloc: Global, question: &str) -> Option<String> {
-    let (quorums, streams, turns) = asked(alloc, question)?;
+    let (quorums, streams, turns) = some!(asked(alloc, question));
     match played(alloc, quorums, streams, turns) {
         Ok(learned) if learned > streams / 2 => owned(alloc, "learned"),
         Ok(learned) => numbered(alloc, "learned in ", u64::from(learned)),
@@ -228,7 +228,7 @@ pub fn random_told(alloc: Global, question: &str) -> Option<String> {
 
 /// The same, whether a value is learned or not.
 pub fn alike_told(alloc: Global, question: &str) -> Option<String> {
-    let (quorums, streams, turns) = asked(alloc, question)?;
+    let (quorums, streams, turns) = some!(asked(alloc, question));
     match played(alloc, quorums, streams, turns) {
         Ok(_learned) => owned(alloc, "alike"),
         Err(stream) => numbered(alloc, "differs in ", u64::from(stream)),

@@ -5,7 +5,7 @@ use paxos_core_world::kept::Kept;
 use paxos_reference::label::Label;
 use paxos_reference::world::World;
 use std::alloc::Global;
-use worked_row_files::owned;
+use worked_row_files::{fine, owned, some};
 
 /// The step of a node alone.
 fn label_of_one(kind: &str, node: u8) -> Option<Label> {
@@ -40,18 +40,18 @@ fn label_with(kind: &str, numbers: &[u16]) -> Option<Label> {
 
 /// The step that is spelled so.
 fn label_of(alloc: Global, text: &str) -> Option<Label> {
-    let (kind, rest) = text.split_once(' ')?;
-    label_with(kind, &numbers(alloc, rest, ' ')?)
+    let (kind, rest) = some!(text.split_once(' '));
+    label_with(kind, &some!(numbers(alloc, rest, ' ')))
 }
 
 /// Takes the step where it is allowed, and tells the message that it sends.
 fn step_told(alloc: Global, world: &mut World, step: &str) -> Option<String> {
-    let label = label_of(alloc, step)?;
+    let label = some!(label_of(alloc, step));
     if !world.allows(&label) {
         return owned(alloc, "no");
     }
     let before = world.sent.len();
-    world.take(&label).ok()?;
+    fine!(world.take(&label));
     match world.sent.first() {
         Some(message) if world.sent.len() > before => message_told(alloc, *message),
         _ => owned(alloc, "yes"),
@@ -60,15 +60,15 @@ fn step_told(alloc: Global, world: &mut World, step: &str) -> Option<String> {
 
 /// What is told of each step from the opening of a room with quorums of these sizes.
 pub fn steps_told(alloc: Global, question: &str) -> Option<String> {
-    let (sizes, steps) = question.split_once(' ')?;
-    let quorums = quorums_of(alloc, sizes)?;
+    let (sizes, steps) = some!(question.split_once(' '));
+    let quorums = some!(quorums_of(alloc, sizes));
     let parts = [Kept::nothing(); 7];
-    let parts = parts.get(..usize::from(quorums.nodes()))?;
-    let mut world = World::opening(alloc, parts, quorums).ok()?;
+    let parts = some!(parts.get(..usize::from(quorums.nodes())));
+    let mut world = fine!(World::opening(alloc, parts, quorums));
     let mut told = String::new(alloc);
     for step in steps.split(';') {
-        let answer = step_told(alloc, &mut world, step)?;
-        write!(told, "{answer};").ok()?;
+        let answer = some!(step_told(alloc, &mut world, step));
+        fine!(write!(told, "{answer};"));
     }
     Some(told)
 }

@@ -4,13 +4,13 @@ use paxos_core_world::msg::Msg;
 use paxos_core_world::quorum::Quorums;
 use paxos_core_world::vote::Vote;
 use std::alloc::Global;
-use worked_row_files::owned;
+use worked_row_files::{fine, owned, some};
 
 /// The numbers of a list with this sign between.
 pub fn numbers(alloc: Global, text: &str, between: char) -> Option<Vec<u16>> {
     let mut all = Vec::new(alloc);
     for word in text.split(between) {
-        all.push(word.parse().ok()?).ok()?;
+        fine!(all.push(fine!(word.parse())));
     }
     Some(all)
 }
@@ -22,7 +22,7 @@ pub fn node_of(number: u16) -> u8 {
 
 /// The quorums of these sizes, `N` or `N,Q1,Q2`: the number of nodes alone stands for majorities.
 pub fn quorums_of(alloc: Global, text: &str) -> Option<Quorums> {
-    let sizes = numbers(alloc, text, ',')?;
+    let sizes = some!(numbers(alloc, text, ','));
     match sizes.as_slice() {
         [nodes] => Quorums::majorities(node_of(*nodes)),
         [nodes, promise, accept] => {
@@ -54,8 +54,8 @@ fn message_with(numbers: &[u16]) -> Option<Msg> {
 
 /// The message that is spelled so.
 pub fn message_of(alloc: Global, text: &str) -> Option<Msg> {
-    let (kind, rest) = text.split_once(' ')?;
-    let message = message_with(&numbers(alloc, rest, ' ')?)?;
+    let (kind, rest) = some!(text.split_once(' '));
+    let message = some!(message_with(&some!(numbers(alloc, rest, ' '))));
     if kind_of(message) == kind {
         Some(message)
     } else {
@@ -94,9 +94,9 @@ pub fn message_told(alloc: Global, message: Msg) -> Option<String> {
         Msg::Accepted(_, _, _) => 3,
         Msg::Promise(_, _, _) => 4,
     };
-    let mut told = owned(alloc, kind)?;
+    let mut told = some!(owned(alloc, kind));
     for number in &numbers[..count] {
-        write!(told, " {number}").ok()?;
+        fine!(write!(told, " {number}"));
     }
     Some(told)
 }

@@ -3,7 +3,7 @@
 use cfarm_files::{DiskFault, FileFault, Files, Reason};
 use durable_pair_memory::MemoryPair;
 use std::alloc::Global;
-use worked_row_files::bytes_of;
+use worked_row_files::{bytes_of, fine};
 
 /// How many calls and bytes a disk can note.
 const CALLS: usize = 20_000;
@@ -169,8 +169,8 @@ fn file_in(alloc: Global, folder: &str, name: &str) -> Result<Option<Vec<u8>>, F
 
 /// The file of this path with these bytes.
 fn put_of(alloc: Global, path: &str, bytes: &[u8]) -> Option<Put> {
-    let path = path.to_string(alloc).ok()?;
-    let bytes = bytes.to_vec(alloc).ok()?;
+    let path = fine!(path.to_string(alloc));
+    let bytes = fine!(bytes.to_vec(alloc));
     Some(Put { path, bytes })
 }
 

@@ -2,12 +2,13 @@
 
 use sha2::{Digest, Sha256};
 use std::alloc::Global;
+use worked_row_files::{fine, some};
 
 /// The digits of numbers below this one as `v`.
 fn numbers_masked(out: &mut String, text: &str, most: char) -> Option<()> {
     for letter in text.chars() {
         let is_number = letter.is_ascii_digit() && letter < most;
-        out.push(if is_number { 'v' } else { letter }).ok()?;
+        fine!(out.push(if is_number { 'v' } else { letter }));
     }
     Some(())
 }
@@ -36,15 +37,15 @@ fn part_masked(
 /// The text with `v` for each learned number that is below the number of nodes, and `H` for the SHA-256 of these bytes.
 pub fn masked(alloc: Global, text: &str, bytes: &[u8]) -> Option<String> {
     let digest = Sha256::digest(bytes);
-    let digits = hex::encode(alloc, digest.as_slice()).ok()?;
+    let digits = fine!(hex::encode(alloc, digest.as_slice()));
     let most = nodes_of(text);
     let mut out = String::new(alloc);
     let mut is_of_rooms = false;
     for part in text.split('"') {
         if !out.is_empty() {
-            out.push('"').ok()?;
+            fine!(out.push('"'));
         }
-        part_masked(&mut out, part, is_of_rooms, most, digits.as_str())?;
+        some!(part_masked(&mut out, part, is_of_rooms, most, digits.as_str()));
         is_of_rooms = part == "rooms";
     }
     Some(out)

@@ -1,20 +1,20 @@
 //! The texts of the rows.
 
 use std::alloc::Global;
-use worked_row_files::bytes_of;
+use worked_row_files::{bytes_of, fine, some};
 
 /// So many copies of a text.
 fn push_copies(text: &mut String, count: u64, copy: &str) -> Option<()> {
     for _copy in 0..count {
-        text.push_str(copy).ok()?;
+        fine!(text.push_str(copy));
     }
     Some(())
 }
 
 /// A part that says how many copies of which text stand for it.
 fn push_repeated(out: &mut String, part: &str) -> Option<()> {
-    let (count, copy) = part.split_once(' ')?;
-    push_copies(out, count.parse().ok()?, copy)
+    let (count, copy) = some!(part.split_once(' '));
+    push_copies(out, fine!(count.parse()), copy)
 }
 
 /// The text with its repeated parts written out.
@@ -23,9 +23,9 @@ fn written_out(alloc: Global, text: &str) -> Option<Vec<u8>> {
     let mut is_repeated = false;
     for part in text.split('`') {
         if is_repeated {
-            push_repeated(&mut out, part)?;
+            some!(push_repeated(&mut out, part));
         } else {
-            out.push_str(part).ok()?;
+            fine!(out.push_str(part));
         }
         is_repeated = !is_repeated;
     }

@@ -18,7 +18,7 @@ use rooms_hall::{Hall, Naming};
 use std::alloc::Global;
 use std::sync::Wait;
 use std::thread::Threads;
-use worked_row_files::owned;
+use worked_row_files::{owned, some};
 
 /// How many generators the crashes are drawn by, the first ones for a failure and the following ones for the next.
 const GENERATORS: u64 = 16;
@@ -129,7 +129,7 @@ fn fails_at<H: Naming + Send, R: Threads + Wait + Sync>(
     let first = (call as u64).wrapping_mul(crashes);
     for crash in 0..crashes {
         let seed = (first.wrapping_add(crash) % GENERATORS).wrapping_add(1);
-        let failed = fails(threads, alloc, hall, text, call, seed)?;
+        let failed = some!(fails(threads, alloc, hall, text, call, seed));
         stopped = stopped || failed;
     }
     Some(stopped)
@@ -144,7 +144,7 @@ pub(crate) fn failing_told<H: Naming + Send, R: Threads + Wait + Sync>(
     crashes: u64,
 ) -> Option<String> {
     for call in 1..MOST {
-        let stopped = fails_at(threads, alloc, hall, text, call, crashes)?;
+        let stopped = some!(fails_at(threads, alloc, hall, text, call, crashes));
         if !stopped {
             return owned(alloc, if call > FEW { "linked" } else { "not stopped" });
         }

@@ -18,7 +18,7 @@ use rooms_hall::{Hall, Naming};
 use std::alloc::Global;
 use std::sync::Wait;
 use std::thread::Threads;
-use worked_row_files::owned;
+use worked_row_files::{owned, some};
 
 /// Proposes only in the fourth pass, and there one order.
 #[derive(Clone, Copy, Debug, PartialEq, Eq)]
@@ -134,7 +134,7 @@ fn all_offers<H: Naming>(
             node: number,
             digest,
         };
-        count = count.saturating_add(offers_in(alloc, disk, &header)?);
+        count = count.saturating_add(some!(offers_in(alloc, disk, &header)));
         number = number.saturating_add(1);
     }
     Some(count)
@@ -147,7 +147,7 @@ pub(crate) fn fixed_told<H: Naming + Send, R: Threads + Wait + Sync>(
     hall: &Hall<H>,
     text: &[u8],
 ) -> Option<String> {
-    let disks = disks_of(alloc, 3)?;
+    let disks = some!(disks_of(alloc, 3));
     let Ok(oracles) = vec![in alloc; Fixed; 3] else {
         return None;
     };
@@ -155,7 +155,7 @@ pub(crate) fn fixed_told<H: Naming + Send, R: Threads + Wait + Sync>(
         return None;
     };
     let Farm { source, nodes } = farm;
-    let nodes = turned(threads, alloc, nodes)?;
+    let nodes = some!(turned(threads, alloc, nodes));
     let Some(count) = all_offers(alloc, &nodes, source.digest) else {
         return owned(alloc, "another");
     };

@@ -15,6 +15,7 @@ use linear_language::{Function, Linear};
 use rand_pcg::Pcg32;
 use rooms_hall::Naming;
 use std::alloc::Global;
+use worked_row_files::fine;
 
 /// More instructions than any of the programs does.
 const LIMIT: u64 = 1_000_000_000;
@@ -161,16 +162,12 @@ pub(crate) fn ran<H: Naming>(alloc: Global, source: &Source, node: &Node<H>) -> 
 /// What a program prints, in hex, `-` for nothing, and how its run stands.
 fn shown(alloc: Global, program: &Program<Function>) -> Option<String> {
     let mut output = Vec::new(alloc);
-    let Ok(shown) = run(alloc, program, LIMIT, &mut output) else {
-        return None;
-    };
+    let shown = fine!(run(alloc, program, LIMIT, &mut output));
     let closing = closing_of(shown);
     if output.is_empty() {
         return format!(in alloc; "- {closing} {}", result_of(shown)).ok();
     }
-    let Ok(text) = hex::encode(alloc, &output) else {
-        return None;
-    };
+    let text = fine!(hex::encode(alloc, &output));
     format!(in alloc; "{text} {closing} {}", result_of(shown)).ok()
 }
 

@@ -14,7 +14,7 @@ use rooms_hall::{Hall, Naming};
 use std::alloc::Global;
 use std::sync::Wait;
 use std::thread::Threads;
-use worked_row_files::owned;
+use worked_row_files::{owned, some};
 
 /// How many crashes are tried of each moment.
 const CRASHES: u64 = 2;
@@ -143,7 +143,7 @@ fn reopens_at<H: Naming + Send, R: Threads + Wait + Sync>(
 ) -> Option<bool> {
     let mut stopped = false;
     for seed in 0..CRASHES {
-        let failed = reopens(threads, alloc, hall, text, call, seed)?;
+        let failed = some!(reopens(threads, alloc, hall, text, call, seed));
         stopped = stopped || failed;
     }
     Some(stopped)
@@ -157,7 +157,7 @@ pub(crate) fn reopened_told<H: Naming + Send, R: Threads + Wait + Sync>(
     text: &[u8],
 ) -> Option<String> {
     for call in 1..MOST {
-        let stopped = reopens_at(threads, alloc, hall, text, call)?;
+        let stopped = some!(reopens_at(threads, alloc, hall, text, call));
         if !stopped {
             return owned(alloc, if call > FEW { "linked" } else { "not stopped" });
         }

@@ -4,6 +4,7 @@ ghost use Rattle.std.specs.Prelude.{◌<◌, IfSome};
 
 use paxos_core_world::quorum::Quorums;
 use std::alloc::Global;
+use worked_row_files::{fine, some};
 
 /// What is done with a farm.
 #[derive(Clone, Copy, Debug, PartialEq, Eq)]
@@ -37,11 +38,11 @@ pub(crate) struct Row {
 /// The quorums: `N` for majorities, or `N,Q1,Q2`.
 fn quorums_of(word: &str) -> Option<Quorums> {
     match word.split_once(',') {
-        None => Quorums::majorities(word.parse().ok()?),
+        None => Quorums::majorities(fine!(word.parse())),
         Some((nodes, sizes)) => {
-            let (promise, accept) = sizes.split_once(',')?;
-            let promise = promise.parse().ok()?;
-            Quorums::of(nodes.parse().ok()?, promise, accept.parse().ok()?)
+            let (promise, accept) = some!(sizes.split_once(','));
+            let promise = fine!(promise.parse());
+            Quorums::of(fine!(nodes.parse()), promise, fine!(accept.parse()))
         }
     }
 }
@@ -74,11 +75,11 @@ fn three_of(alloc: Global, trial: Trial, crashes: u64, text: &str) -> Option<Row
 {
     Some(Row {
         trial,
-        quorums: Quorums::majorities(3)?,
+        quorums: some!(Quorums::majorities(3)),
         workers: 3,
         seed: 1,
         crashes,
-        text: text.as_bytes().to_vec(alloc).ok()?,
+        text: fine!(text.as_bytes().to_vec(alloc)),
     })
 }
 
@@ -86,9 +87,9 @@ fn three_of(alloc: Global, trial: Trial, crashes: u64, text: &str) -> Option<Row
 fn run_of(alloc: Global, words: &str) -> Option<Row>
     ensures { IfSome result (λ row. 0 < row.workers) }
 {
-    let (sizes, rest) = words.split_once(' ')?;
-    let (workers, rest) = rest.split_once(' ')?;
-    let (seed, text) = rest.split_once(' ')?;
+    let (sizes, rest) = some!(words.split_once(' '));
+    let (workers, rest) = some!(rest.split_once(' '));
+    let (seed, text) = some!(rest.split_once(' '));
     let Some(quorums) = quorums_of(sizes) else {
         return None;
     };
@@ -99,9 +100,9 @@ fn run_of(alloc: Global, words: &str) -> Option<Row>
         trial: Trial::Run,
         quorums,
         workers,
-        seed: seed.parse().ok()?,
+        seed: fine!(seed.parse()),
         crashes: 0,
-        text: text.as_bytes().to_vec(alloc).ok()?,
+        text: fine!(text.as_bytes().to_vec(alloc)),
     })
 }
 
@@ -114,8 +115,8 @@ pub(crate) fn row_of(alloc: Global, words: &str) -> Option<Row>
     };
     match trial_of(word) {
         Some(Trial::Failing) => {
-            let (crashes, text) = text.split_once(' ')?;
-            three_of(alloc, Trial::Failing, crashes.parse().ok()?, text)
+            let (crashes, text) = some!(text.split_once(' '));
+            three_of(alloc, Trial::Failing, fine!(crashes.parse()), text)
         }
         Some(trial) => three_of(alloc, trial, 0, text),
         None => run_of(alloc, words),

@@ -9,27 +9,27 @@ use rooms_hall::{Hall, Naming};
 use std::alloc::Global;
 use std::sync::Wait;
 use std::thread::Threads;
-use worked_row_files::bytes_of;
+use worked_row_files::{bytes_of, fine, some};
 use worked_whole::disk_of;
 
 /// Adds a record to a journal: its gate, its length, and its bytes.
 fn add(journal: &mut Vec<u8>, body: &[u8]) -> Option<()> {
-    let size = u32::try_from(body.len()).ok()?;
-    journal.push(1).ok()?;
-    journal.extend_from_slice(&size.to_be_bytes()).ok()?;
+    let size = fine!(u32::try_from(body.len()));
+    fine!(journal.push(1));
+    fine!(journal.extend_from_slice(&size.to_be_bytes()));
     journal.extend_from_slice(body).ok()
 }
 
 /// A journal of the records.
 fn journal_of(alloc: Global, header: &Header, records: &str) -> Option<Vec<u8>> {
-    let mut journal = header_bytes(alloc, header).ok()?;
+    let mut journal = fine!(header_bytes(alloc, header));
     for word in records.split(',') {
         if word != "-" {
-            let body = bytes_of(alloc, word)?;
-            add(&mut journal, body.as_slice())?;
+            let body = some!(bytes_of(alloc, word));
+            some!(add(&mut journal, body.as_slice()));
         }
     }
-    journal.push(0).ok()?;
+    fine!(journal.push(0));
     Some(journal)
 }
 
@@ -50,8 +50,8 @@ fn forged_disks(
             node: number,
             digest,
         };
-        let journal = journal_of(alloc, &header, node)?;
-        let disk = disk_of(alloc, journal.as_slice())?;
+        let journal = some!(journal_of(alloc, &header, node));
+        let disk = some!(disk_of(alloc, journal.as_slice()));
         if disks.push(disk).is_err() {
             return None;
         }

@@ -35,7 +35,7 @@ use crate::rows::row_of;
 use std::sync::Wait;
 use std::thread::Threads;
 use std::{fs, io};
-use worked_row_files::{agrees, parts_of_row};
+use worked_row_files::{Count, done, question_of, some};
 
 /// The file of the rows.
 const HOSTILE: &str = "hostile.txt";
@@ -46,27 +46,28 @@ fn answer<R: Threads + Wait + Sync>(
     threads: &R,
     question: &str,
 ) -> Option<String> {
-    let Some(row) = row_of(rt.alloc(), question) else {
-        return None;
-    };
+    let row = some!(row_of(rt.alloc(), question));
     told(threads, rt.alloc(), row)
+}
+
+/// Asks for each row of the text, and tells how many agree.
+fn tell_lines<R: Threads + Wait + Sync>(
+    rt: &HostRuntime,
+    threads: &R,
+    text: &str,
+) -> io::Result<()> {
+    let mut count = Count::none();
+    for line in text.lines() {
+        if let Some(question) = question_of(line) {
+            let told = answer(rt, threads, question);
+            done!(count.add(rt, HOSTILE, line, told));
+        }
+    }
+    count.tell(rt, HOSTILE)
 }
 
 /// Asks for each row of the file that lies beside the program, and tells how many agree. The farms take threads.
 pub fn tell<R: Threads + Wait + Sync>(rt: &HostRuntime, threads: &R) -> io::Result<()> {
-    let text = fs::read_to_string(rt, HOSTILE)?;
-    let mut all = 0u64;
-    let mut agree = 0u64;
-    for line in text.lines() {
-        if line.starts_with('#') {
-            continue;
-        }
-        all = all.saturating_add(1);
-        let (question, _said) = parts_of_row(line);
-        let answered = answer(rt, threads, question);
-        if agrees(rt, HOSTILE, line, all, answered)? {
-            agree = agree.saturating_add(1);
-        }
-    }
-    println!(rt; "{HOSTILE}: {agree} of {all} agree")
+    let text = done!(fs::read_to_string(rt, HOSTILE));
+    tell_lines(rt, threads, text.as_str())
 }

@@ -8,7 +8,7 @@ use rooms_hall::{Hall, Naming};
 use std::alloc::Global;
 use std::sync::Wait;
 use std::thread::Threads;
-use worked_row_files::owned;
+use worked_row_files::{fine, owned, some};
 use worked_whole::{
     BYTES, CALLS, Farm, Node, all_linked, bytes_of_all, crashed, crashed_of, opened_on, ran_on,
     stays, whole,
@@ -34,17 +34,17 @@ fn old_journal(
     let mut old = Vec::new(alloc);
     if nodes % 2 == 1 && promise == half && accept == half {
         let front = [b'C', b'F', b'J', b'1', nodes, node];
-        old.extend_from_slice(front.as_slice()).ok()?;
+        fine!(old.extend_from_slice(front.as_slice()));
     } else {
         let front = [b'C', b'F', b'J', b'F', nodes, promise, accept, node];
-        old.extend_from_slice(front.as_slice()).ok()?;
+        fine!(old.extend_from_slice(front.as_slice()));
     }
     if journal.len() < HEADER {
         return None;
     }
     let (_header, records) = journal.split_at(HEADER);
-    old.extend_from_slice(digest.as_slice()).ok()?;
-    old.extend_from_slice(records).ok()?;
+    fine!(old.extend_from_slice(digest.as_slice()));
+    fine!(old.extend_from_slice(records));
     Some(old)
 }
 
@@ -60,8 +60,8 @@ fn old_pairs(
     let mut pairs = Vec::new(alloc);
     let mut node = 0u8;
     for journal in journals {
-        let old = old_journal(alloc, quorums, node, digest, journal.as_slice())?;
-        let mut pair = MemoryPair::holding(alloc, Vec::new(alloc), old, CALLS, BYTES).ok()?;
+        let old = some!(old_journal(alloc, quorums, node, digest, journal.as_slice()));
+        let mut pair = fine!(MemoryPair::holding(alloc, Vec::new(alloc), old, CALLS, BYTES));
         if node == fails {
             pair.fail_at(call);
         }

@@ -2,6 +2,7 @@
 
 use paxos_core_world::quorum::Quorums;
 use std::alloc::Global;
+use worked_row_files::{fine, some};
 
 /// What a farm suffers.
 #[derive(Clone, Copy, Debug, PartialEq, Eq)]
@@ -53,27 +54,27 @@ fn trial_of(word: &str) -> Option<Trial> {
 /// The quorums: `N` for more than half of the nodes, or `N,Q1,Q2`.
 fn quorums_of(word: &str) -> Option<Quorums> {
     match word.split_once(',') {
-        None => Quorums::majorities(word.parse().ok()?),
+        None => Quorums::majorities(fine!(word.parse())),
         Some((nodes, sizes)) => {
-            let (promise, accept) = sizes.split_once(',')?;
-            let promise = promise.parse().ok()?;
-            Quorums::of(nodes.parse().ok()?, promise, accept.parse().ok()?)
+            let (promise, accept) = some!(sizes.split_once(','));
+            let promise = fine!(promise.parse());
+            Quorums::of(fine!(nodes.parse()), promise, fine!(accept.parse()))
         }
     }
 }
 
 /// What a question asks for, if it is one.
 pub(crate) fn row_of(alloc: Global, question: &str) -> Option<Row> {
-    let (word, rest) = question.split_once(' ')?;
-    let (sizes, rest) = rest.split_once(' ')?;
-    let (how, text) = rest.split_once(' ')?;
+    let (word, rest) = some!(question.split_once(' '));
+    let (sizes, rest) = some!(rest.split_once(' '));
+    let (how, text) = some!(rest.split_once(' '));
     let Some(trial) = trial_of(word) else {
         return None;
     };
     Some(Row {
         trial,
-        quorums: quorums_of(sizes)?,
-        how: how.to_string(alloc).ok()?,
-        text: text.as_bytes().to_vec(alloc).ok()?,
+        quorums: some!(quorums_of(sizes)),
+        how: fine!(how.to_string(alloc)),
+        text: fine!(text.as_bytes().to_vec(alloc)),
     })
 }

@@ -10,7 +10,7 @@ use rooms_hall::{Hall, Naming};
 use std::alloc::Global;
 use std::sync::Wait;
 use std::thread::Threads;
-use worked_row_files::owned;
+use worked_row_files::{owned, some};
 use worked_whole::{
     FarmError, OpenFault, RoomFault, bytes_of_all, disk_of, opened_on, whole_disks,
 };
@@ -33,8 +33,8 @@ fn damaged(alloc: Global, journal: &[u8], at: usize, damage: Damage) -> Option<V
     };
     match damage {
         Damage::Cut => bytes.truncate(at),
-        Damage::Bit => *bytes.get_mut(at)? ^= 1,
-        Damage::Bits => *bytes.get_mut(at)? ^= 255,
+        Damage::Bit => *some!(bytes.get_mut(at)) ^= 1,
+        Damage::Bits => *some!(bytes.get_mut(at)) ^= 255,
     }
     Some(bytes)
 }

@@ -3,6 +3,7 @@
 use crate::forms::{Asked, records_in};
 use crate::rows::listed;
 use std::alloc::Global;
+use worked_row_files::{fine, some};
 
 /// Answers in a row, those that are alike told once with their number.
 #[derive(Drop)]
@@ -23,7 +24,7 @@ impl Runs {
 
     fn push(&mut self, alloc: Global, answer: String) -> Option<()> {
         if self.number != 0 && self.last.as_str() != answer.as_str() {
-            self.close(alloc)?;
+            some!(self.close(alloc));
         }
         self.number = self.number.saturating_add(1);
         self.last = answer;
@@ -33,11 +34,11 @@ impl Runs {
     /// Tells the answer that came last.
     fn close(&mut self, alloc: Global) -> Option<()> {
         if !self.text.as_str().is_empty() {
-            self.text.push_str(" ").ok()?;
+            fine!(self.text.push_str(" "));
         }
         let (last, number) = (self.last.as_str(), self.number);
-        let told = format!(in alloc; "{last}*{number}").ok()?;
-        self.text.push_str(told.as_str()).ok()?;
+        let told = fine!(format!(in alloc; "{last}*{number}"));
+        fine!(self.text.push_str(told.as_str()));
         self.number = 0;
         Some(())
     }
@@ -47,11 +48,11 @@ impl Runs {
 pub fn cut(alloc: Global, asked: &Asked, journal: &[u8]) -> Option<String> {
     let mut runs = Runs::new(alloc);
     for number in 0..journal.len() {
-        let front = journal.get(..number)?;
-        runs.push(alloc, stands_for(alloc, asked, front)?)?;
+        let front = some!(journal.get(..number));
+        some!(runs.push(alloc, some!(stands_for(alloc, asked, front))));
     }
-    runs.push(alloc, stands_for(alloc, asked, journal)?)?;
-    runs.close(alloc)?;
+    some!(runs.push(alloc, some!(stands_for(alloc, asked, journal))));
+    some!(runs.close(alloc));
     Some(runs.text)
 }
 
@@ -64,9 +65,9 @@ pub fn changed(alloc: Global, asked: &Asked, journal: Vec<u8>, at: usize) -> Opt
             return None;
         }
         journal[at] = byte;
-        runs.push(alloc, stands_for(alloc, asked, journal.as_slice())?)?;
+        some!(runs.push(alloc, some!(stands_for(alloc, asked, journal.as_slice()))));
     }
-    runs.close(alloc)?;
+    some!(runs.close(alloc));
     Some(runs.text)
 }
 
@@ -74,7 +75,7 @@ pub fn changed(alloc: Global, asked: &Asked, journal: Vec<u8>, at: usize) -> Opt
 fn stands_for(alloc: Global, asked: &Asked, journal: &[u8]) -> Option<String> {
     match records_in(alloc, asked, journal) {
         Ok(found) => {
-            let records = listed(alloc, found.as_slice())?;
+            let records = some!(listed(alloc, found.as_slice()));
             format!(in alloc; "[{records}]").ok()
         }
         Err(fault) => format!(in alloc; "{fault}").ok(),

@@ -8,6 +8,7 @@ use durable_model::{Disk, MemoryDisk};
 use lang_base::Row;
 use rand_pcg::Pcg32;
 use std::alloc::Global;
+use worked_row_files::{fine, some};
 
 const HEADER: Header = Header {
     nodes: 3,
@@ -20,14 +21,14 @@ const HEADER: Header = Header {
 /// Whether, with each of so many calls failing in turn, each of 16 crashes leaves what was acknowledged.
 pub fn all_survive(alloc: Global, appends: u16, calls: usize) -> Option<bool> {
     for fails in 0..calls {
-        let mut disk = MemoryDisk::new(alloc, calls, 100_000).ok()?;
+        let mut disk = fine!(MemoryDisk::new(alloc, calls, 100_000));
         disk.fail_at(fails);
-        let (disk, done) = filled(alloc, disk, appends)?;
+        let (disk, done) = some!(filled(alloc, disk, appends));
         let Some(done) = done else {
             continue;
         };
         for seed in 0..16u64 {
-            if !survives(alloc, &disk, done, seed)? {
+            if !some!(survives(alloc, &disk, done, seed)) {
                 return Some(false);
             }
         }
@@ -70,18 +71,18 @@ fn has_stopped<D: Disk>(log: &mut Log<D>, entry: &Record) -> bool
 
 /// Whether a crash leaves a journal of the first so many records, or of one more.
 fn survives(alloc: Global, disk: &MemoryDisk, done: u16, seed: u64) -> Option<bool> {
-    let crashed = disk.crash(alloc, &mut Pcg32::new(seed, 0)).ok()?;
+    let crashed = fine!(disk.crash(alloc, &mut Pcg32::new(seed, 0)));
     let Ok((_log, records)) = Log::open(alloc, crashed, &HEADER) else {
         return Some(false);
     };
     let many = records.len();
     let known = usize::from(done);
-    Some((many == known || many == known + 1) && are_first(alloc, records.as_slice())?)
+    Some((many == known || many == known + 1) && some!(are_first(alloc, records.as_slice())))
 }
 
 fn are_first(alloc: Global, records: &[Record]) -> Option<bool> {
     for (number, entry) in records.iter().enumerate() {
-        if *entry != entry_of(alloc, u16::try_from(number).ok()?)? {
+        if *entry != some!(entry_of(alloc, fine!(u16::try_from(number)))) {
             return Some(false);
         }
     }
@@ -91,7 +92,7 @@ fn are_first(alloc: Global, records: &[Record]) -> Option<bool> {
 /// One record for each number, of each kind in turn.
 fn entry_of(alloc: Global, number: u16) -> Option<Record> {
     Some(match number % 5 {
-        0 => Record::Offered(number, offer_of(alloc, number)?),
+        0 => Record::Offered(number, some!(offer_of(alloc, number))),
         1 => Record::Started(number, 3),
         2 => Record::Proposed(number, 3, 1),
         3 => Record::Promised(number, 4),
@@ -102,7 +103,7 @@ fn entry_of(alloc: Global, number: u16) -> Option<Record> {
 fn offer_of(alloc: Global, number: u16) -> Option<Row<u8>> {
     let mut bytes = Vec::new(alloc);
     for index in 0..number {
-        bytes.push((index % 251) as u8).ok()?;
+        fine!(bytes.push((index % 251) as u8));
     }
     Some(Row::from_vec(bytes))
 }

@@ -4,6 +4,7 @@ use acceptor_log::read;
 use acceptor_log_form::{Header, LogError, Record};
 use acceptor_log_old::read_old;
 use std::alloc::Global;
+use worked_row_files::some;
 
 /// A header, and whether a journal of an earlier version is asked for.
 #[derive(Clone, Copy)]
@@ -46,7 +47,7 @@ pub fn asked_of(bytes: &[u8]) -> Option<Asked> {
     let (header, is_old) = match bytes {
         [b'C', b'F', b'J', b'1', nodes, node, rest @ ..] => {
             let half = nodes / 2 + 1;
-            (header_with([*nodes, half, half], *node, rest)?, true)
+            (some!(header_with([*nodes, half, half], *node, rest)), true)
         }
         [
             b'C',
@@ -59,7 +60,7 @@ pub fn asked_of(bytes: &[u8]) -> Option<Asked> {
             node,
             rest @ ..,
         ] => {
-            let header = header_with([*nodes, *promise, *accept], *node, rest)?;
+            let header = some!(header_with([*nodes, *promise, *accept], *node, rest));
             (header, *form == b'F')
         }
         _ => return None,

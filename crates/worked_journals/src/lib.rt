@@ -27,11 +27,11 @@ mod rows;
 
 use crate::rows::Rows;
 use std::io;
-use worked_row_files::compare;
+use worked_row_files::{compare, done};
 
 /// Asks for each row of the files that lie beside the program, and tells how many agree.
 pub fn tell(rt: &HostRuntime) -> io::Result<()> {
-    compare(rt, "journals.txt", &mut Rows)?;
-    compare(rt, "changed.txt", &mut Rows)?;
+    done!(compare(rt, "journals.txt", &mut Rows));
+    done!(compare(rt, "changed.txt", &mut Rows));
     compare(rt, "migrations.txt", &mut Rows)
 }

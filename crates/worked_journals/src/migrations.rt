@@ -7,7 +7,7 @@ use durable_pair::Pair;
 use durable_pair_memory::MemoryPair;
 use rand_pcg::Pcg32;
 use std::alloc::Global;
-use worked_row_files::{numbered, owned};
+use worked_row_files::{fine, numbered, owned, some};
 
 /// What a new disk may hold before.
 const LEFT_OVER: &[u8] = b"something that was there before, and is longer than a header";
@@ -16,8 +16,8 @@ const LEFT_OVER: &[u8] = b"something that was there before, and is longer than a
 fn holding(alloc: Global, content: &[u8], old: &[u8]) -> Option<MemoryPair> {
     let both = content.len().saturating_add(old.len());
     let most = both.saturating_mul(4).saturating_add(1_000);
-    let content = Vec::from_slice(alloc, content).ok()?;
-    let old = Vec::from_slice(alloc, old).ok()?;
+    let content = fine!(Vec::from_slice(alloc, content));
+    let old = fine!(Vec::from_slice(alloc, old));
     MemoryPair::holding(alloc, content, old, 50, most).ok()
 }
 
@@ -38,7 +38,7 @@ fn migrated(
 
 /// The new journal that an old one becomes, or the number of the refusal; nothing is written then.
 pub fn made_of(alloc: Global, header: &Header, old: &[u8]) -> Option<String> {
-    let (pair, refused) = migrated(alloc, header, holding(alloc, &[], old)?)?;
+    let (pair, refused) = some!(migrated(alloc, header, some!(holding(alloc, &[], old))));
     match refused {
         None => {
             if is_spent(old, pair.old_bytes()) {
@@ -67,7 +67,7 @@ fn is_spent(old: &[u8], now: &[u8]) -> bool {
 
 /// The new disk's bytes, once the pair was migrated without a refusal.
 fn written_over(alloc: Global, header: &Header, content: &[u8], old: &[u8]) -> Option<Vec<u8>> {
-    let (pair, refused) = migrated(alloc, header, holding(alloc, content, old)?)?;
+    let (pair, refused) = some!(migrated(alloc, header, some!(holding(alloc, content, old))));
     match refused {
         None => Vec::from_slice(alloc, pair.bytes()).ok(),
         Some(_) => None,
@@ -77,11 +77,11 @@ fn written_over(alloc: Global, header: &Header, content: &[u8], old: &[u8]) -> O
 /// The new journal, where migration makes it anew over each front of it, over it with any one byte changed, and over it with
 /// bytes behind it; and where a pair with another first byte of the old journal opens it.
 pub fn made_over(alloc: Global, header: &Header, old: &[u8]) -> Option<String> {
-    let text = written_over(alloc, header, &[], old)?;
-    let all = are_made_over_fronts(alloc, header, text.as_slice(), old)?
-        && are_made_over_changes(alloc, header, text.as_slice(), old)?
-        && is_made_over_longer(alloc, header, text.as_slice(), old)?
-        && are_opened(alloc, header, text.as_slice(), old)?;
+    let text = some!(written_over(alloc, header, &[], old));
+    let all = some!(are_made_over_fronts(alloc, header, text.as_slice(), old))
+        && some!(are_made_over_changes(alloc, header, text.as_slice(), old))
+        && some!(is_made_over_longer(alloc, header, text.as_slice(), old))
+        && some!(are_opened(alloc, header, text.as_slice(), old));
     told(alloc, all, text.as_slice())
 }
 
@@ -95,7 +95,7 @@ fn told(alloc: Global, all: bool, text: &[u8]) -> Option<String> {
 
 fn are_made_over_fronts(alloc: Global, header: &Header, text: &[u8], old: &[u8]) -> Option<bool> {
     for number in 0..text.len() {
-        let made = written_over(alloc, header, text.get(..number)?, old)?;
+        let made = some!(written_over(alloc, header, some!(text.get(..number)), old));
         if made.as_slice() != text {
             return Some(false);
         }
@@ -106,11 +106,11 @@ fn are_made_over_fronts(alloc: Global, header: &Header, text: &[u8], old: &[u8])
 fn are_made_over_changes(alloc: Global, header: &Header, text: &[u8], old: &[u8]) -> Option<bool> {
     for at in 0..text.len() {
         for change in [0x01u8, 0x43, 0xff] {
-            let mut content = Vec::from_slice(alloc, text).ok()?;
+            let mut content = fine!(Vec::from_slice(alloc, text));
             if at < content.len() {
                 content[at] ^= change;
             }
-            let made = written_over(alloc, header, content.as_slice(), old)?;
+            let made = some!(written_over(alloc, header, content.as_slice(), old));
             if made.as_slice() != text {
                 return Some(false);
             }
@@ -121,26 +121,26 @@ fn are_made_over_changes(alloc: Global, header: &Header, text: &[u8], old: &[u8]
 
 /// Bytes behind the new journal stay, and do not count.
 fn is_made_over_longer(alloc: Global, header: &Header, text: &[u8], old: &[u8]) -> Option<bool> {
-    let mut longer = Vec::from_slice(alloc, text).ok()?;
-    longer.extend_from_slice(LEFT_OVER).ok()?;
-    let made = written_over(alloc, header, longer.as_slice(), old)?;
-    Some(made == longer && opens_as(alloc, header, holding(alloc, &made, &[0])?, text)?)
+    let mut longer = fine!(Vec::from_slice(alloc, text));
+    fine!(longer.extend_from_slice(LEFT_OVER));
+    let made = some!(written_over(alloc, header, longer.as_slice(), old));
+    Some(made == longer && some!(opens_as(alloc, header, some!(holding(alloc, &made, &[0])), text)))
 }
 
 /// With each first byte of the old journal the pair opens as the new one: where it is a `C`, migrated again.
 fn are_opened(alloc: Global, header: &Header, text: &[u8], old: &[u8]) -> Option<bool> {
     for byte in 0..=255u8 {
-        let mut turned = Vec::from_slice(alloc, old).ok()?;
+        let mut turned = fine!(Vec::from_slice(alloc, old));
         if turned.is_empty() {
             return None;
         }
         turned[0] = byte;
-        if !opens_as(
+        if !some!(opens_as(
             alloc,
             header,
-            holding(alloc, text, turned.as_slice())?,
+            some!(holding(alloc, text, turned.as_slice())),
             text,
-        )? {
+        )) {
             return Some(false);
         }
     }
@@ -150,10 +150,10 @@ fn are_opened(alloc: Global, header: &Header, text: &[u8], old: &[u8]) -> Option
 /// Whether a node that opens the pair lists what the new journal does: it migrates an old journal that counts.
 fn opens_as(alloc: Global, header: &Header, pair: MemoryPair, text: &[u8]) -> Option<bool> {
     let mut pair = pair;
-    pair.sync_old().ok()?;
-    let counts = pair.read_old(alloc).ok()?.first() == Some(&b'C');
+    fine!(pair.sync_old());
+    let counts = fine!(pair.read_old(alloc)).first() == Some(&b'C');
     let pair = if counts {
-        match migrated(alloc, header, pair)? {
+        match some!(migrated(alloc, header, pair)) {
             (pair, None) => pair,
             _ => return Some(false),
         }
@@ -169,13 +169,13 @@ fn opens_as(alloc: Global, header: &Header, pair: MemoryPair, text: &[u8]) -> Op
 /// The new journal, where a migration of which one call fails, or each from one on, leaves a pair that opens as it, under
 /// sixteen crashes each and without one.
 pub fn made_after_stops(alloc: Global, header: &Header, old: &[u8]) -> Option<String> {
-    let text = written_over(alloc, header, &[], old)?;
+    let text = some!(written_over(alloc, header, &[], old));
     let mut all = true;
     for call in 1..7usize {
-        all = all && survives(alloc, header, [&[], old], [call, 0], text.as_slice())?;
-        all = all && survives(alloc, header, [LEFT_OVER, old], [call, 0], text.as_slice())?;
-        all = all && survives(alloc, header, [&[], old], [0, call], text.as_slice())?;
-        all = all && survives(alloc, header, [LEFT_OVER, old], [0, call], text.as_slice())?;
+        all = all && some!(survives(alloc, header, [&[], old], [call, 0], text.as_slice()));
+        all = all && some!(survives(alloc, header, [LEFT_OVER, old], [call, 0], text.as_slice()));
+        all = all && some!(survives(alloc, header, [&[], old], [0, call], text.as_slice()));
+        all = all && some!(survives(alloc, header, [LEFT_OVER, old], [0, call], text.as_slice()));
     }
     told(alloc, all, text.as_slice())
 }
@@ -189,13 +189,13 @@ fn survives(
 ) -> Option<bool> {
     let [content, old] = held;
     let [fails, stops] = fails;
-    let mut pair = holding(alloc, content, old)?;
+    let mut pair = some!(holding(alloc, content, old));
     pair.fail_at(fails);
     pair.stop_from(stops);
-    let (pair, _refused) = migrated(alloc, header, pair)?;
+    let (pair, _refused) = some!(migrated(alloc, header, pair));
     for seed in 1..17u64 {
-        let left = pair.crash(alloc, &mut Pcg32::new(seed, 0)).ok()?;
-        if !opens_as(alloc, header, left, text)? {
+        let left = fine!(pair.crash(alloc, &mut Pcg32::new(seed, 0)));
+        if !some!(opens_as(alloc, header, left, text)) {
             return Some(false);
         }
     }

@@ -7,7 +7,7 @@ use acceptor_log::Log;
 use acceptor_log_form::{Header, LogError, Record, kept_parts};
 use durable_model::{Disk, MemoryDisk};
 use std::alloc::Global;
-use worked_row_files::{Answers, bytes_of, numbered, owned};
+use worked_row_files::{Answers, bytes_of, fine, numbered, owned, some};
 
 /// Answers what a row asks.
 #[derive(Clone, Copy)]
@@ -15,11 +15,11 @@ pub struct Rows;
 
 impl Answers for Rows {
     fn answer(&mut self, alloc: Global, question: &str, _row: u64) -> Option<String> {
-        let (word, rest) = question.split_once(' ')?;
-        let (first, second) = rest.split_once(' ')?;
+        let (word, rest) = some!(question.split_once(' '));
+        let (first, second) = some!(rest.split_once(' '));
         match word {
             "crashes" => {
-                let held = all_survive(alloc, first.parse().ok()?, second.parse().ok()?)?;
+                let held = some!(all_survive(alloc, fine!(first.parse()), fine!(second.parse())));
                 owned(alloc, if held { "yes" } else { "no" })
             }
             _ => asked(alloc, word, first, second),
@@ -28,8 +28,8 @@ impl Answers for Rows {
 }
 
 fn asked(alloc: Global, word: &str, header: &str, journal: &str) -> Option<String> {
-    let asked = asked_of(bytes_of(alloc, header)?.as_slice())?;
-    let bytes = bytes_of(alloc, journal)?;
+    let asked = some!(asked_of(some!(bytes_of(alloc, header)).as_slice()));
+    let bytes = some!(bytes_of(alloc, journal));
     let (header, bytes) = (&asked.header, bytes.as_slice());
     match word {
         "read" => match records_in(alloc, &asked, bytes) {
@@ -44,7 +44,7 @@ fn asked(alloc: Global, word: &str, header: &str, journal: &str) -> Option<Strin
         "open" => opened(alloc, header, bytes),
         "create" => created(alloc, header, bytes),
         "again" => {
-            let is_same = is_made_again(alloc, header, bytes)?;
+            let is_same = some!(is_made_again(alloc, header, bytes));
             owned(alloc, if is_same { "yes" } else { "no" })
         }
         "migrate" => made_of(alloc, header, bytes),
@@ -58,8 +58,8 @@ fn varied(alloc: Global, word: &str, asked: &Asked, bytes: &[u8]) -> Option<Stri
     if word == "cuts" {
         return cut(alloc, asked, bytes);
     }
-    let at = word.strip_prefix("changed-")?.parse().ok()?;
-    changed(alloc, asked, Vec::from_slice(alloc, bytes).ok()?, at)
+    let at = fine!(some!(word.strip_prefix("changed-")).parse());
+    changed(alloc, asked, fine!(Vec::from_slice(alloc, bytes)), at)
 }
 
 /// How many records there are, where they keep the order.
@@ -79,21 +79,21 @@ fn ordered(alloc: Global, asked: &Asked, bytes: &[u8]) -> Option<String> {
 
 /// What a new journal holds that was made over these bytes.
 fn created(alloc: Global, header: &Header, bytes: &[u8]) -> Option<String> {
-    let disk = MemoryDisk::new(alloc, 8, bytes.len().saturating_add(100)).ok()?;
+    let disk = fine!(MemoryDisk::new(alloc, 8, bytes.len().saturating_add(100)));
     let mut disk = disk;
-    disk.write_at(0, bytes).ok()?;
+    fine!(disk.write_at(0, bytes));
     match Log::create(alloc, disk, header) {
         Ok(log) => {
             let mut disk = log.into_disk();
-            hex::encode(alloc, disk.read(alloc).ok()?.as_slice()).ok()
+            hex::encode(alloc, fine!(disk.read(alloc)).as_slice()).ok()
         }
         Err((_disk, fault)) => refused(alloc, fault),
     }
 }
 
 fn opened(alloc: Global, header: &Header, bytes: &[u8]) -> Option<String> {
-    let mut disk = MemoryDisk::new(alloc, 8, bytes.len()).ok()?;
-    disk.write_at(0, bytes).ok()?;
+    let mut disk = fine!(MemoryDisk::new(alloc, 8, bytes.len()));
+    fine!(disk.write_at(0, bytes));
     match Log::open(alloc, disk, header) {
         Ok((_log, records)) => counted(alloc, header, records.as_slice()),
         Err((_disk, fault)) => refused(alloc, fault),
@@ -129,8 +129,8 @@ fn is_numbered(header: &Header, entry: &Record) -> bool {
 pub fn listed(alloc: Global, records: &[Record]) -> Option<String> {
     let mut text = String::new(alloc);
     for entry in records {
-        let one = told(alloc, entry)?;
-        text.push_str(one.as_str()).ok()?;
+        let one = some!(told(alloc, entry));
+        fine!(text.push_str(one.as_str()));
     }
     Some(text)
 }

@@ -1,11 +1,10 @@
 //! Functions of RTL that words choose.
 
-use crate::proposing::output_of;
-use lang_base::Oracle;
+use crate::kinds::{Kind, proposed};
 use rand_core::utils::NextWord;
 use rand_pcg::Pcg32;
 use std::alloc::{AllocError, Global};
-use worked_row_files::owned;
+use worked_row_files::{bytes_of, done, fine, owned, some};
 
 /// How functions are drawn: the bytes in front of the nodes, how many registers and nodes there are, and the forms of
 /// a node, of which each is as likely. In a form `r` stands for a register, `n` for a node, `g` for one of two globals
@@ -26,9 +25,9 @@ pub fn drawing_of<'a>(words: &'a [&'a str]) -> Option<Drawing<'a>> {
     };
     Some(Drawing {
         head,
-        registers: registers.parse().ok()?,
-        nodes: nodes.parse().ok()?,
-        count: count.parse().ok()?,
+        registers: fine!(registers.parse()),
+        nodes: fine!(nodes.parse()),
+        count: fine!(count.parse()),
         forms,
     })
 }
@@ -52,45 +51,56 @@ fn push_node(
             'g' => 2,
             'v' => 4,
             _ => {
-                text.push(letter)?;
+                done!(text.push(letter));
                 continue;
             }
         };
         let chosen = small(draws, below);
-        write!(text, "{chosen:04x}")?;
+        done!(write!(text, "{chosen:04x}"));
     }
     Ok(())
 }
 
 /// The text of a function that the words of a seed choose.
-pub fn drawn_text(alloc: Global, drawing: Drawing<'_>, seed: u64) -> Result<String, AllocError> {
+fn drawn_text(alloc: Global, drawing: Drawing<'_>, seed: u64) -> Result<String, AllocError> {
     let mut words = Pcg32::new(seed, 1);
-    let mut text = drawing.head.to_string(alloc)?;
+    let mut text = done!(drawing.head.to_string(alloc));
     for _ in 0..drawing.nodes {
         let place = words.next_word() as usize % drawing.forms.len().max(1);
         if let Some(form) = drawing.forms.get(place) {
-            push_node(drawing, form, &mut words, &mut text)?;
+            done!(push_node(drawing, form, &mut words, &mut text));
         }
     }
     Ok(text)
 }
 
-/// Whether the proposals for all functions that are drawn are accepted, and whether more than ten of them differ from
-/// the input.
-pub fn drawn<O: Oracle>(alloc: Global, oracle: &mut O, question: &str) -> Option<String> {
-    let words: Vec<&str> = question.split(' ').collect(alloc).ok()?;
-    let drawing = drawing_of(words.as_slice())?;
+/// The function that the words of a seed choose.
+pub fn drawn_input(alloc: Global, drawing: Drawing<'_>, seed: u64) -> Option<Vec<u8>> {
+    let text = fine!(drawn_text(alloc, drawing, seed));
+    bytes_of(alloc, text.as_str())
+}
+
+/// How many of the proposals for the functions that are drawn differ from the input, if all are accepted.
+fn changed(alloc: Global, kind: Kind, drawing: Drawing<'_>) -> Option<u64> {
     let mut changed = 0u64;
     for seed in 1..=drawing.count {
-        let text = drawn_text(alloc, drawing, seed).ok()?;
-        let output = output_of(alloc, oracle, text.as_str(), seed)?;
-        if output.as_str() != text.as_str() {
+        let input = some!(drawn_input(alloc, drawing, seed));
+        if some!(proposed(alloc, kind, &input, seed)) != input {
             changed = changed.saturating_add(1);
         }
     }
+    Some(changed)
+}
+
+/// Whether the proposals for all functions that are drawn are accepted, and whether more than ten of them differ from
+/// the input.
+pub fn drawn(alloc: Global, kind: Kind, question: &str) -> Option<String> {
+    let words: Vec<&str> = fine!(question.split(' ').collect(alloc));
+    let drawing = some!(drawing_of(words.as_slice()));
+    let is_changed = some!(changed(alloc, kind, drawing)) > 10;
     owned(
         alloc,
-        if changed > 10 {
+        if is_changed {
             "accepted, changed"
         } else {
             "accepted"

@@ -23,28 +23,36 @@
 mod changes;
 mod drawing;
 mod judging;
+mod kinds;
 mod linked;
 mod orders;
+mod passes;
 mod proposing;
 mod rows;
 mod slots;
 mod validations;
 
+use crate::kinds::Kind;
 use crate::rows::Rows;
 use crate::validations::tell_validations;
 use std::io;
 use std::sync::Wait;
 use std::thread::Threads;
-use worked_row_files::compare;
+use worked_row_files::{compare, done};
 
 /// Asks for each row of the files that lie beside the program, and tells how many agree. Many validations take threads.
 pub fn tell<R: Threads + Wait + Sync>(rt: &HostRuntime, threads: &R) -> io::Result<()> {
-    compare(rt, "constants.txt", &mut Rows::Constants)?;
-    compare(rt, "subexpressions.txt", &mut Rows::Subexpressions)?;
-    compare(rt, "allocations.txt", &mut Rows::Allocations)?;
-    compare(rt, "slots.txt", &mut Rows::Slots)?;
-    compare(rt, "linearized.txt", &mut Rows::Linearized)?;
-    compare(rt, "orders.txt", &mut Rows::Orders)?;
-    compare(rt, "linked.txt", &mut Rows::Linked)?;
+    for (name, rows) in [
+        ("constants.txt", Rows::Offers(Kind::Constants)),
+        ("subexpressions.txt", Rows::Offers(Kind::Subexpressions)),
+        ("allocations.txt", Rows::Offers(Kind::Allocations)),
+        ("slots.txt", Rows::Slots),
+        ("linearized.txt", Rows::Offers(Kind::Linearized)),
+        ("orders.txt", Rows::Orders),
+        ("linked.txt", Rows::Linked),
+    ] {
+        let mut rows = rows;
+        done!(compare(rt, name, &mut rows));
+    }
     tell_validations(rt, threads)
 }

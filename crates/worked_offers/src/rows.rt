@@ -2,90 +2,60 @@
 
 use crate::changes::near;
 use crate::drawing::drawn;
-use crate::judging::{Explained, judged, parts_of};
+use crate::judging::{judged_and_proposed, judged_baseline};
+use crate::kinds::{Kind, name_of};
 use crate::linked::linked_told;
 use crate::orders::order_answer;
-use crate::proposing::{baseline_of, both, proposed, varied};
+use crate::proposing::{baseline_told, both, varied};
 use crate::slots::slots_told;
-use constprop_check::ConstProp;
-use lang_base::Oracle;
-use offers::Offer;
-use oracle_alloc::AllocOracle;
-use oracle_const::ConstOracle;
-use oracle_cse::CseOracle;
-use oracle_order::OrderOracle;
-use rtl_language::Rtl;
 use std::alloc::Global;
-use worked_row_files::{Answers, bytes_of};
+use worked_row_files::{Answers, bytes_of, some};
 
 /// What the questions of a file are about: offers of a pass, slots, orders of nodes, or linking.
-#[derive(Drop)]
+#[derive(Clone, Copy)]
 pub enum Rows {
-    Constants,
-    Subexpressions,
-    Allocations,
-    Linearized,
+    Offers(Kind),
     Slots,
     Orders,
     Linked,
 }
 
-/// What is said of a written offer, if what is proposed for its input is accepted.
-fn judged_and_proposed<O: Explained>(
-    alloc: Global,
-    oracle: &mut O,
-    text: &str,
-    seed: u64,
-) -> Option<String> {
-    let bytes = bytes_of(alloc, text)?;
-    if let Ok(parts) = parts_of::<O::P>(alloc, &bytes) {
-        let _offer = proposed(alloc, oracle, parts.input, seed)?;
-    }
-    judged::<O>(alloc, &bytes)
-}
-
-/// What is said of the baseline of an input, or the number of its refusal.
-fn judged_baseline<O: Explained>(alloc: Global, text: &str) -> Option<String> {
-    let written = baseline_of::<O::P>(alloc, text)?;
-    match bytes_of(alloc, written.as_str()) {
-        Some(bytes) => judged::<O>(alloc, &bytes),
-        None => Some(written),
-    }
-}
-
 /// The name of a written offer.
-fn name_of<O: Oracle>(alloc: Global, text: &str) -> Option<String> {
-    let bytes = bytes_of(alloc, text)?;
-    let offer = Offer::<O::P>::read(alloc, &bytes).ok()?;
-    hex::encode(alloc, &offer.name(alloc).ok()?).ok()
+fn name_told(alloc: Global, kind: Kind, bytes: &[u8]) -> Option<String> {
+    let name = some!(name_of(alloc, kind, bytes));
+    hex::encode(alloc, &name).ok()
 }
 
-/// The answer to a question about the pass of an optimiser.
-fn told<O: Explained>(alloc: Global, oracle: &mut O, question: &str, row: u64) -> Option<String> {
-    let (kind, words) = question.split_once(' ')?;
-    match kind {
-        "judged" => judged_and_proposed(alloc, oracle, words, row),
-        "name" => name_of::<O>(alloc, words),
-        "near" => near::<O::P>(alloc, bytes_of(alloc, words)?),
-        "baseline" => baseline_of::<O::P>(alloc, words),
-        "baseline_judged" => judged_baseline::<O>(alloc, words),
-        "proposed" => both(alloc, oracle, words),
-        "varied" => varied(alloc, oracle, words),
-        "drawn" => drawn(alloc, oracle, words),
+/// The answer to a question about bytes.
+fn bytes_told(alloc: Global, kind: Kind, asked: &str, bytes: Vec<u8>, row: u64) -> Option<String> {
+    match asked {
+        "judged" => judged_and_proposed(alloc, kind, &bytes, row),
+        "name" => name_told(alloc, kind, &bytes),
+        "near" => near(alloc, kind, bytes),
+        "baseline" => baseline_told(alloc, kind, &bytes),
+        "baseline_judged" => judged_baseline(alloc, kind, &bytes),
+        "varied" => varied(alloc, kind, &bytes),
         _ => None,
+    }
+}
+
+/// The answer to a question about the pass.
+fn told(alloc: Global, kind: Kind, question: &str, row: u64) -> Option<String> {
+    let (asked, words) = some!(question.split_once(' '));
+    match asked {
+        "proposed" => both(alloc, kind, words),
+        "drawn" => drawn(alloc, kind, words),
+        _ => bytes_told(alloc, kind, asked, some!(bytes_of(alloc, words)), row),
     }
 }
 
 impl Answers for Rows {
     fn answer(&mut self, alloc: Global, question: &str, row: u64) -> Option<String> {
         match self {
-            Rows::Constants => told(alloc, &mut ConstOracle, question, row),
-            Rows::Subexpressions => told(alloc, &mut CseOracle, question, row),
-            Rows::Allocations => told(alloc, &mut AllocOracle, question, row),
-            Rows::Linearized => told(alloc, &mut OrderOracle, question, row),
+            Rows::Offers(kind) => told(alloc, *kind, question, row),
             Rows::Slots => slots_told(alloc, question),
             Rows::Orders => order_answer(alloc, question, row),
-            Rows::Linked => linked_told::<Rtl, ConstProp>(alloc, question),
+            Rows::Linked => linked_told(alloc, question),
         }
     }
 }

@@ -1,14 +1,14 @@
 //! How many blocks of an allocation touch slots.
 
-use crate::drawing::{drawing_of, drawn_text};
-use crate::proposing::{function_of, proposed};
+use crate::drawing::{drawing_of, drawn_input};
+use crate::kinds::{Kind, proposed};
+use crate::passes::function_of;
 use alloc_check::baseline;
 use locations::{Location, Move};
-use ltl::{Block, Body, Function};
-use oracle_alloc::AllocOracle;
+use ltl::{Block, Body, Function, Ltl};
 use rtl_language::Rtl;
 use std::alloc::Global;
-use worked_row_files::owned;
+use worked_row_files::{fine, owned, some};
 
 fn is_slot(location: &Location) -> bool {
     matches!(location, Location::InSlot(_))
@@ -58,30 +58,25 @@ fn touching(function: &Function) -> u64 {
     count
 }
 
-/// How many blocks of the baseline touch slots.
-fn touching_baseline(alloc: Global, input: &rtl_language::Function) -> Option<u64> {
-    let (output, _equations) = baseline(alloc, input).ok()?;
-    Some(touching(&output))
-}
-
 /// How many blocks touch slots: of the proposal for a function, if it is accepted, and of the baseline.
-fn touching_both(alloc: Global, text: &str, seed: u64) -> Option<(u64, u64)> {
-    let input = function_of::<Rtl>(alloc, text)?;
-    let theirs = touching_baseline(alloc, &input);
-    let offer = proposed(alloc, &mut AllocOracle, input, seed)?;
-    Some((touching(offer.output()), theirs?))
+fn touching_both(alloc: Global, input: &[u8], seed: u64) -> Option<(u64, u64)> {
+    let function = some!(function_of::<Rtl>(alloc, input));
+    let (theirs, _equations) = fine!(baseline(alloc, &function));
+    let ours = some!(proposed(alloc, Kind::Allocations, input, seed));
+    let ours = some!(function_of::<Ltl>(alloc, &ours));
+    Some((touching(&ours), touching(&theirs)))
 }
 
 /// Whether the proposals for all functions that are drawn are accepted, and fewer than a third as many of their blocks
 /// touch slots as of the baselines'.
 pub fn slots_told(alloc: Global, question: &str) -> Option<String> {
-    let words: Vec<&str> = question.split(' ').collect(alloc).ok()?;
-    let drawing = drawing_of(words.as_slice())?;
+    let words: Vec<&str> = fine!(question.split(' ').collect(alloc));
+    let drawing = some!(drawing_of(words.as_slice()));
     let mut ours = 0u64;
     let mut theirs = 0u64;
     for seed in 1..=drawing.count {
-        let text = drawn_text(alloc, drawing, seed).ok()?;
-        let (touched, simplest) = touching_both(alloc, text.as_str(), seed)?;
+        let input = some!(drawn_input(alloc, drawing, seed));
+        let (touched, simplest) = some!(touching_both(alloc, &input, seed));
         ours = ours.saturating_add(touched);
         theirs = theirs.saturating_add(simplest);
     }

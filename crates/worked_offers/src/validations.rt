@@ -1,6 +1,6 @@
 //! Many validations at once: the answers do not depend on the threads, and more than one thread is used.
 
-use crate::judging::parts_of;
+use crate::passes::parts_of;
 use constprop_check::ConstProp;
 use cse_check::Cse;
 use lang_base::Pass;
@@ -11,7 +11,7 @@ use std::sync::Wait;
 use std::sync::atomic::{AtomicBool, Ordering};
 use std::thread::{self, Threads};
 use std::{fs, io};
-use worked_row_files::{agrees, bytes_of, owned, parts_of_row};
+use worked_row_files::{Count, bytes_of, done, fine, owned, question_of, some};
 
 /// The file of the rows.
 const NAME: &str = "validations.txt";
@@ -22,55 +22,86 @@ const LOOKS: u32 = 1_000_000;
 /// So many jobs: one that the pass accepts, one that it refuses, and so on in turn.
 fn in_turn<P: Pass>(
     alloc: Global,
-    accepted: &str,
-    refused: &str,
+    accepted: &[u8],
+    refused: &[u8],
     count: usize,
 ) -> Option<Vec<Job<P>>> {
-    let accepted = bytes_of(alloc, accepted)?;
-    let refused = bytes_of(alloc, refused)?;
     let mut jobs = Vec::new(alloc);
     for number in 0..count {
-        let bytes = if number % 2 == 0 { &accepted } else { &refused };
-        jobs.push(parts_of::<P>(alloc, bytes).ok()?).ok()?;
+        let bytes = if number % 2 == 0 { accepted } else { refused };
+        fine!(jobs.push(fine!(parts_of::<P>(alloc, bytes))));
     }
     Some(jobs)
 }
 
-/// Whether so many workers answer yes to each job with an even number and no to the others.
-fn answered_in_turn<P: Pass + Sync, R: Threads + Wait + Sync>(
+/// What so many workers answer to each of so many jobs.
+fn answers_of<P: Pass + Sync, G: Gate + Sync, R: Threads + Wait + Sync>(
     rt: &R,
     alloc: Global,
-    jobs: &[Job<P>],
+    accepted: &[u8],
+    refused: &[u8],
+    count: usize,
     workers: usize,
-) -> Option<bool>
+    gate: &G,
+) -> Option<Vec<bool>>
 where
     P::In: Sync,
     P::Out: Sync,
 {
-    let answers = check_all::<P, OpenGate, R>(rt, alloc, jobs, workers.max(1), &OpenGate).ok()?;
-    let in_turn = answers
-        .iter()
-        .enumerate()
-        .all(|(number, answer)| *answer == (number % 2 == 0));
-    Some(in_turn && answers.len() == jobs.len())
+    let jobs = some!(in_turn::<P>(alloc, accepted, refused, count));
+    check_all::<P, G, R>(rt, alloc, &jobs, workers.max(1), gate).ok()
+}
+
+/// Whether so many jobs are answered, each with an even number with yes and the others with no.
+fn are_in_turn(answers: &[bool], count: usize) -> bool {
+    let mut is_yes = true;
+    for answer in answers {
+        if *answer != is_yes {
+            return false;
+        }
+        is_yes = !is_yes;
+    }
+    answers.len() == count
+}
+
+/// The same of the pass that is asked for.
+fn answers_by<R: Threads + Wait + Sync>(
+    rt: &R,
+    alloc: Global,
+    asked: &str,
+    accepted: &[u8],
+    refused: &[u8],
+    count: usize,
+    workers: usize,
+) -> Option<Vec<bool>> {
+    let gate = &OpenGate;
+    match asked {
+        "constants" => answers_of::<ConstProp, OpenGate, R>(
+            rt, alloc, accepted, refused, count, workers, gate,
+        ),
+        "subexpressions" => answers_of::<Cse, OpenGate, R>(
+            rt, alloc, accepted, refused, count, workers, gate,
+        ),
+        "linearized" => answers_of::<Linearize, OpenGate, R>(
+            rt, alloc, accepted, refused, count, workers, gate,
+        ),
+        _ => None,
+    }
 }
 
 /// What is told of so many jobs by each number of workers from 1 to the given one.
-fn many_told<P: Pass + Sync, R: Threads + Wait + Sync>(
+fn many_told<R: Threads + Wait + Sync>(
     rt: &R,
     alloc: Global,
+    asked: &str,
+    accepted: &[u8],
+    refused: &[u8],
     counts: (usize, usize),
-    accepted: &str,
-    refused: &str,
-) -> Option<String>
-where
-    P::In: Sync,
-    P::Out: Sync,
-{
+) -> Option<String> {
     let (count, most) = counts;
-    let jobs = in_turn::<P>(alloc, accepted, refused, count)?;
     for workers in 1..=most {
-        if !answered_in_turn::<P, R>(rt, alloc, &jobs, workers)? {
+        let answers = some!(answers_by(rt, alloc, asked, accepted, refused, count, workers));
+        if !are_in_turn(answers.as_slice(), count) {
             return owned(alloc, "other answers");
         }
     }
@@ -112,65 +143,55 @@ impl Gate for Meeting {
 }
 
 /// Whether two workers do two jobs at the same time.
-fn met_told<P: Pass + Sync, R: Threads + Wait + Sync>(
+fn met_told<R: Threads + Wait + Sync>(
     rt: &R,
     alloc: Global,
-    accepted: &str,
-    refused: &str,
-) -> Option<String>
-where
-    P::In: Sync,
-    P::Out: Sync,
-{
-    let jobs = in_turn::<P>(alloc, accepted, refused, 2)?;
+    accepted: &[u8],
+    refused: &[u8],
+) -> Option<String> {
     let meeting = Meeting {
         answered: AtomicBool::new(false),
         met: AtomicBool::new(false),
     };
-    let answers = check_all::<P, Meeting, R>(rt, alloc, &jobs, 2, &meeting).ok()?;
-    let are_right = answers.as_slice() == [true, false].as_slice();
-    let met = meeting.met.load(Ordering::SeqCst);
-    owned(
-        alloc,
-        if are_right && met {
-            "met"
-        } else {
-            "one after the other"
-        },
-    )
+    let answers = answers_of::<ConstProp, Meeting, R>(rt, alloc, accepted, refused, 2, 2, &meeting);
+    let is_met = are_in_turn(some!(answers).as_slice(), 2) && meeting.met.load(Ordering::SeqCst);
+    owned(alloc, if is_met { "met" } else { "one after the other" })
 }
 
 /// The answer to a question about many validations.
 fn answer<R: Threads + Wait + Sync>(threads: &R, alloc: Global, question: &str) -> Option<String> {
-    let words: Vec<&str> = question.split(' ').collect(alloc).ok()?;
-    let [kind, count, most, accepted, refused] = words.as_slice() else {
+    let words: Vec<&str> = fine!(question.split(' ').collect(alloc));
+    let [asked, count, most, accepted, refused] = words.as_slice() else {
         return None;
     };
-    let counts = (count.parse().ok()?, most.parse().ok()?);
-    match *kind {
-        "constants" => many_told::<ConstProp, R>(threads, alloc, counts, accepted, refused),
-        "subexpressions" => many_told::<Cse, R>(threads, alloc, counts, accepted, refused),
-        "linearized" => many_told::<Linearize, R>(threads, alloc, counts, accepted, refused),
-        "met" => met_told::<ConstProp, R>(threads, alloc, accepted, refused),
-        _ => None,
+    let count: usize = fine!(count.parse());
+    let most: usize = fine!(most.parse());
+    let accepted = some!(bytes_of(alloc, accepted));
+    let refused = some!(bytes_of(alloc, refused));
+    match *asked {
+        "met" if count == 2 && most == 2 => met_told(threads, alloc, &accepted, &refused),
+        _ => many_told(threads, alloc, asked, &accepted, &refused, (count, most)),
     }
 }
 
-/// Tells how many rows are answered as they say, on threads.
-pub fn tell_validations<R: Threads + Wait + Sync>(rt: &HostRuntime, threads: &R) -> io::Result<()> {
-    let text = fs::read_to_string(rt, NAME)?;
-    let mut all = 0u64;
-    let mut agree = 0u64;
+/// Tells how many rows of the text are answered as they say, on threads.
+fn tell_lines<R: Threads + Wait + Sync>(
+    rt: &HostRuntime,
+    threads: &R,
+    text: &str,
+) -> io::Result<()> {
+    let mut count = Count::none();
     for line in text.lines() {
-        if line.starts_with('#') {
-            continue;
-        }
-        all = all.saturating_add(1);
-        let (question, _said) = parts_of_row(line);
-        let told = answer(threads, rt.alloc(), question);
-        if agrees(rt, NAME, line, all, told)? {
-            agree = agree.saturating_add(1);
+        if let Some(question) = question_of(line) {
+            let told = answer(threads, rt.alloc(), question);
+            done!(count.add(rt, NAME, line, told));
         }
     }
-    println!(rt; "{NAME}: {agree} of {all} agree")
+    count.tell(rt, NAME)
+}
+
+/// The same of the file.
+pub fn tell_validations<R: Threads + Wait + Sync>(rt: &HostRuntime, threads: &R) -> io::Result<()> {
+    let text = done!(fs::read_to_string(rt, NAME));
+    tell_lines(rt, threads, text.as_str())
 }

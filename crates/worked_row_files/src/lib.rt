@@ -3,7 +3,8 @@
 #![tactic(auto)]
 
 mod answers;
+mod exits;
 mod row;
 
-pub use answers::{Answers, agrees, compare, numbered, owned, parts_of_row};
+pub use answers::{Answers, Count, compare, numbered, owned, question_of};
 pub use row::{Form, Row, bytes_of, row_of};

@@ -1,5 +1,6 @@
 //! A text and what is known of it.
 
+use crate::{fine, some};
 use std::alloc::Global;
 
 /// How the lines of a file are written.
@@ -29,30 +30,30 @@ pub fn bytes_of(alloc: Global, word: &str) -> Option<Vec<u8>> {
 }
 
 fn hex_row(alloc: Global, line: &str) -> Option<Row> {
-    let (text, rest) = line.split_once(' ')?;
-    let (depth, rest) = rest.split_once(' ')?;
-    let (output, closing) = rest.split_once(' ')?;
+    let (text, rest) = some!(line.split_once(' '));
+    let (depth, rest) = some!(rest.split_once(' '));
+    let (output, closing) = some!(rest.split_once(' '));
     Some(Row {
-        text: bytes_of(alloc, text)?,
-        depth: Some(depth.parse().ok()?),
-        output: bytes_of(alloc, output)?,
-        closing: closing.to_string(alloc).ok()?,
+        text: some!(bytes_of(alloc, text)),
+        depth: Some(fine!(depth.parse())),
+        output: some!(bytes_of(alloc, output)),
+        closing: fine!(closing.to_string(alloc)),
     })
 }
 
 fn plain_row(alloc: Global, line: &str) -> Option<Row> {
-    let (depth, rest) = line.split_once('\t')?;
-    let (text, rest) = rest.split_once('\t')?;
-    let (output, closing) = rest.split_once('\t')?;
+    let (depth, rest) = some!(line.split_once('\t'));
+    let (text, rest) = some!(rest.split_once('\t'));
+    let (output, closing) = some!(rest.split_once('\t'));
     let depth = match depth {
         "check" => None,
-        _ => Some(depth.parse().ok()?),
+        _ => Some(fine!(depth.parse())),
     };
     Some(Row {
-        text: text.as_bytes().to_vec(alloc).ok()?,
+        text: fine!(text.as_bytes().to_vec(alloc)),
         depth,
-        output: output.as_bytes().to_vec(alloc).ok()?,
-        closing: closing.to_string(alloc).ok()?,
+        output: fine!(output.as_bytes().to_vec(alloc)),
+        closing: fine!(closing.to_string(alloc)),
     })
 }
 

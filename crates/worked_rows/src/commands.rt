@@ -9,11 +9,16 @@
 //! | `failing WORDS < TEXT` | the bytes of the output and of standard error, where the program answers 4 with a writer that fails at any of them |
 //! | `unflushed WORDS < TEXT`, `untold WORDS < TEXT` | the same as `run`, where the output, or standard error, cannot be flushed |
 //! | `linked WORDS < TEXT` | the same as `run`, without what the program does that was put |
+//! | `coded WORDS < TEXT` | the same as `run`, with the output in hex, `-` where it is empty |
+//! | `ends WORDS < TEXT` | the same without the output |
 //! | `bundled WORDS < TEXT` | the same as `linked`, with the paths of all files that were put; and where these are a bundle and a program, what `verify` says of them |
 //! | `here WORDS`, `shown WORDS` | the same as `run`, and as `seen`, with the files of the machine |
 //! | `bytes PATH` | the bytes of a file of the machine, in hex; `none` where none is there |
 //! | `twice FOLDER WORDS` | the same, of a build in the folder, and the same of `exec --limit 1000` on its `linked.cfp`; and `same` where a second build answers the same and leaves the same file |
 //! | `proved FOLDER WORDS` | the same as `linked`, of a build in the folder, and what `verify` says of its `linked.cfp` and `linked.cfb` |
+//! | `settled OUTPUT .. < INPUT` | `agreed`, where `settle` prints one of the outputs |
+//! | `near settle < INPUT` | `well`, where on each strict front of the input, and each change of one byte of it, `settle` prints what is settled or refuses the form and prints nothing |
+//! | `noise COUNT` | `well` likewise, of so many random inputs |
 //!
 //! The words have blanks between; `''` is an empty one. The file `f` has the text, for `big` there is no memory, and of the
 //! others those can be read that were put. A text that begins with `%` is in hex; in another a number and a text between
@@ -32,5 +37,6 @@ mod failing;
 mod machine_files;
 mod rows;
 mod runs;
+mod settling;
 
 pub use rows::tell;

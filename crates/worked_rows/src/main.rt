@@ -10,15 +10,16 @@ mod commands;
 use std::io;
 use std::sync::Wait;
 use std::thread::Threads;
+use worked_row_files::done;
 
 fn main(rt: HostRuntime) -> io::Result<()> {
-    commands::tell(&rt, &rt)?;
-    worked_agreement::tell(&rt, &rt)?;
-    worked_texts::tell_texts(&rt)?;
-    worked_texts::tell_forms(&rt)?;
-    worked_offers::tell(&rt, &rt)?;
-    worked_farm::tell(&rt, &rt)?;
-    worked_texts::tell_programs(&rt)?;
-    worked_journals::tell(&rt)?;
+    done!(commands::tell(&rt, &rt));
+    done!(worked_agreement::tell(&rt));
+    done!(worked_texts::tell_texts(&rt));
+    done!(worked_texts::tell_forms(&rt));
+    done!(worked_offers::tell(&rt, &rt));
+    done!(worked_farm::tell(&rt, &rt));
+    done!(worked_texts::tell_programs(&rt));
+    done!(worked_journals::tell(&rt));
     worked_hostile::tell(&rt, &rt)
 }

@@ -1,55 +1,48 @@
-//! What a language says of bytes.
+//! What is said of bytes that may be functions or programs.
 
-use lang::{read_program, write_program};
-use lang_base::Language;
+use crate::languages::{Kind, are_same, form, program};
 use std::alloc::Global;
-use worked_row_files::{bytes_of, numbered, owned};
+use worked_row_files::{bytes_of, numbered, owned, some};
 
-/// What is said of the function that the bytes begin with: what is read, and its copy, are written as just these.
-pub fn form_told<L: Language>(alloc: Global, bytes: &[u8]) -> Option<String> {
-    let (function, length) = match L::read(alloc, bytes) {
-        Ok(found) => found,
-        Err(fault) => return numbered(alloc, "no", u64::from(fault.number())),
-    };
-    let copied = L::copy(alloc, &function).ok()?;
-    let mut written = Vec::new(alloc);
-    L::write(&copied, &mut written).ok()?;
-    if copied != function || written.as_slice() != &bytes[..length] {
-        return None;
+/// What is said of the function that the bytes begin with.
+pub fn form_told(alloc: Global, kind: Kind, bytes: &[u8]) -> Option<String> {
+    match some!(form(alloc, kind, bytes)) {
+        Ok(length) => numbered(alloc, "ok", length as u64),
+        Err(number) => numbered(alloc, "no", u64::from(number)),
     }
-    numbered(alloc, "ok", length as u64)
 }
 
-/// The number of the fault of bytes, or 0.
-fn fault_of<L: Language>(alloc: Global, bytes: &[u8]) -> u16 {
-    match L::read(alloc, bytes) {
-        Ok(_found) => 0,
-        Err(fault) => fault.number(),
+/// Whether each strict front ends within the form.
+fn are_short(alloc: Global, kind: Kind, bytes: &[u8]) -> bool {
+    for length in 0..bytes.len() {
+        if !matches!(form(alloc, kind, &bytes[..length]), Some(Err(101))) {
+            return false;
+        }
     }
+    true
 }
 
 /// Whether each function that is read with one byte behind the first changed to this one is written so.
-fn are_written_again<L: Language>(alloc: Global, bytes: &mut Vec<u8>, byte: u8) -> bool {
+fn are_written_again(alloc: Global, kind: Kind, bytes: &mut [u8], byte: u8) -> bool {
     for place in 1..bytes.len() {
         let right = bytes[place];
         bytes[place] = byte;
-        if form_told::<L>(alloc, bytes).is_none() {
+        let is_well = form(alloc, kind, bytes).is_some();
+        bytes[place] = right;
+        if !is_well {
             return false;
         }
-        bytes[place] = right;
     }
     true
 }
 
 /// What is said of all that is near a function.
-pub fn near<L: Language>(alloc: Global, mut bytes: Vec<u8>) -> Option<String> {
-    for length in 0..bytes.len() {
-        if fault_of::<L>(alloc, &bytes[..length]) != 101 {
-            return None;
-        }
+pub fn near(alloc: Global, kind: Kind, mut bytes: Vec<u8>) -> Option<String> {
+    if !are_short(alloc, kind, &bytes) {
+        return None;
     }
     for byte in 0..=u8::MAX {
-        if !are_written_again::<L>(alloc, &mut bytes, byte) {
+        if !are_written_again(alloc, kind, &mut bytes, byte) {
             return owned(alloc, "short");
         }
     }
@@ -57,23 +50,20 @@ pub fn near<L: Language>(alloc: Global, mut bytes: Vec<u8>) -> Option<String> {
 }
 
 /// Whether two functions are equal.
-pub fn same<L: Language>(alloc: Global, words: &str) -> Option<String> {
-    let (first, second) = words.split_once(' ')?;
-    let (first, _length) = L::read(alloc, &bytes_of(alloc, first)?).ok()?;
-    let (second, _length) = L::read(alloc, &bytes_of(alloc, second)?).ok()?;
-    owned(alloc, if first == second { "yes" } else { "no" })
+pub fn same(alloc: Global, kind: Kind, words: &str) -> Option<String> {
+    let (first, second) = some!(words.split_once(' '));
+    let (first, second) = (
+        some!(bytes_of(alloc, first)),
+        some!(bytes_of(alloc, second)),
+    );
+    let are_same = some!(are_same(alloc, kind, &first, &second));
+    owned(alloc, if are_same { "yes" } else { "no" })
 }
 
 /// What is said of a program that is all of the bytes.
-pub fn program_told<L: Language>(alloc: Global, bytes: &[u8]) -> Option<String> {
-    let (program, length) = match read_program::<L>(alloc, bytes) {
-        Ok(found) => found,
-        Err(fault) => return numbered(alloc, "no", u64::from(fault.number())),
-    };
-    let mut written = Vec::new(alloc);
-    write_program::<L>(&program, &mut written).ok()?;
-    if length < bytes.len() || written.as_slice() != bytes {
-        return None;
+pub fn program_told(alloc: Global, kind: Kind, bytes: &[u8]) -> Option<String> {
+    match some!(program(alloc, kind, bytes)) {
+        0 => owned(alloc, "ok"),
+        number => numbered(alloc, "no", u64::from(number)),
     }
-    owned(alloc, "ok")
 }

@@ -1,25 +1,26 @@
 //! High and long functions of Cminor.
 
 use std::alloc::Global;
+use worked_row_files::fine;
 
 /// A skip in so many blocks.
 pub fn blocks(alloc: Global, count: &str) -> Option<Vec<u8>> {
-    let count: u32 = count.parse().ok()?;
-    let mut bytes = Vec::from_slice(alloc, &[1, 0, 0, 0]).ok()?;
+    let count: u32 = fine!(count.parse());
+    let mut bytes = fine!(Vec::from_slice(alloc, &[1, 0, 0, 0]));
     for _ in 0..count {
-        bytes.push(8).ok()?;
+        fine!(bytes.push(8));
     }
-    bytes.push(0).ok()?;
+    fine!(bytes.push(0));
     Some(bytes)
 }
 
 /// A sequence of so many skips.
 pub fn skips(alloc: Global, count: &str) -> Option<Vec<u8>> {
-    let count: u32 = count.parse().ok()?;
-    let mut bytes = Vec::from_slice(alloc, &[1, 0, 0, 0, 5]).ok()?;
-    bytes.extend_from_slice(&count.to_be_bytes()).ok()?;
+    let count: u32 = fine!(count.parse());
+    let mut bytes = fine!(Vec::from_slice(alloc, &[1, 0, 0, 0, 5]));
+    fine!(bytes.extend_from_slice(&count.to_be_bytes()));
     for _ in 0..count {
-        bytes.push(0).ok()?;
+        fine!(bytes.push(0));
     }
     Some(bytes)
 }

@@ -12,18 +12,17 @@
 //! | `long_turned COUNT` | the same, where the names stand in the other order |
 
 use crate::linked::ran;
-use alloc_check::Alloc;
+use crate::texts::repeated;
 use c_checker_rules::CProgram;
 use c_texts::accept;
-use chains_made::{Chain, ExactBaselines, LinkError, Named, Offers, link, translated};
+use chains_made::{Chain, LinkError, Maker, Named, Offers, all_offers, link, translated};
 use cminor::lower;
-use constprop_check::ConstProp;
-use cse_check::Cse;
 use lang_base::Program;
-use linearize_check::Linearize;
-use offers::baseline_of;
 use std::alloc::Global;
-use worked_row_files::Answers;
+use worked_row_files::{Answers, fine, some};
+
+/// The pieces of a text whose second function has so many statements.
+const LONG: &str = "|int main(void){return 0;}void f(void){int x;|x=1;|}|";
 
 /// The names beside the offers.
 #[derive(Clone, Copy)]
@@ -43,28 +42,10 @@ enum Beside {
     Nothing,
 }
 
-/// The baselines of a function, each on the output of the one before it.
-fn baselines_of(alloc: Global, function: &rtl_language::Function) -> Option<Offers> {
-    let constants = baseline_of::<ConstProp, ExactBaselines>(alloc, function).ok()?;
-    let expressions = baseline_of::<Cse, ExactBaselines>(alloc, constants.output()).ok()?;
-    let allocation = baseline_of::<Alloc, ExactBaselines>(alloc, expressions.output()).ok()?;
-    let order = baseline_of::<Linearize, ExactBaselines>(alloc, allocation.output()).ok()?;
-    Some(Offers {
-        constants,
-        expressions,
-        allocation,
-        order,
-    })
-}
-
-/// The baselines of all functions of a program.
+/// The baselines of all functions of a program, each on the output of the one before it.
 fn all_baselines(alloc: Global, program: &CProgram) -> Option<Vec<Offers>> {
-    let begun = translated(alloc, program).ok()?;
-    let mut all = Vec::new(alloc);
-    for named in begun.functions.as_slice() {
-        all.push(baselines_of(alloc, &named.function)?).ok()?;
-    }
-    Some(all)
+    let begun = fine!(translated(alloc, program));
+    all_offers(alloc, begun.functions.as_slice(), &mut Maker::baselines()).ok()
 }
 
 fn lent(offers: &Offers) -> Chain<'_> {
@@ -91,11 +72,11 @@ fn chain_at(offers: &[Offers], beside: Beside, number: usize) -> Option<Chain<'_
     match beside {
         Beside::Nothing => None,
         Beside::NoneAt(at) if at == number => None,
-        Beside::FirstAt(at) if at == number => Some(lent(offers.first()?)),
+        Beside::FirstAt(at) if at == number => Some(lent(some!(offers.first()))),
         Beside::CrossedAt(at) if at == number => {
-            Some(crossed(offers.get(number)?, offers.first()?))
+            Some(crossed(some!(offers.get(number)), some!(offers.first())))
         }
-        _ => Some(lent(offers.get(number)?)),
+        _ => Some(lent(some!(offers.get(number)))),
     }
 }
 
@@ -128,7 +109,7 @@ fn named_of<'a>(
     for number in 0..count {
         let name = name_at(lowered, names, number);
         let chain = chain_at(offers, beside, number);
-        named.push(Named { name, chain }).ok()?;
+        fine!(named.push(Named { name, chain }));
     }
     Some(named)
 }
@@ -144,8 +125,8 @@ fn refusal_told(alloc: Global, fault: LinkError) -> Option<String> {
 
 /// What a linked program does.
 fn run_told(alloc: Global, made: &Program<linear_language::Function>) -> Option<String> {
-    let told = ran(alloc, made).ok()?;
-    let output = String::from_utf8_lossy(alloc, told.output.as_slice()).ok()?;
+    let told = fine!(ran(alloc, made));
+    let output = fine!(String::from_utf8_lossy(alloc, told.output.as_slice()));
     let closing = told.closing;
     format!(in alloc; "{closing} [{output}]").ok()
 }
@@ -168,41 +149,30 @@ fn program_told(
 ) -> Option<String> {
     let offers = match beside {
         Beside::Nothing => Vec::new(alloc),
-        _ => all_baselines(alloc, program)?,
+        _ => some!(all_baselines(alloc, program)),
     };
-    let named = named_of(alloc, lowered, offers.as_slice(), names, beside)?;
+    let named = some!(named_of(alloc, lowered, offers.as_slice(), names, beside));
     link_told(alloc, program, named.as_slice())
 }
 
 /// The same of a text.
 fn linked_told(alloc: Global, text: &[u8], names: Names, beside: Beside) -> Option<String> {
-    let program = accept(alloc, text).ok()?;
-    let lowered = lower(alloc, &program).ok()?;
+    let program = fine!(accept(alloc, text));
+    let lowered = fine!(lower(alloc, &program));
     program_told(alloc, &program, &lowered, names, beside)
 }
 
-/// A text with a second function of so many statements.
-fn long_text(alloc: Global, count: u32) -> Option<String> {
-    let mut text = "int main(void){return 0;}void f(void){int x;"
-        .to_string(alloc)
-        .ok()?;
-    for _ in 0..count {
-        text.push_str("x=1;").ok()?;
-    }
-    text.push_str("}").ok()?;
-    Some(text)
-}
-
-/// What is told of that text, without any offers.
+/// What is told of a text with a second function of so many statements, without any offers.
 fn long_told(alloc: Global, count: &str, names: Names) -> Option<String> {
-    let text = long_text(alloc, count.parse().ok()?)?;
-    linked_told(alloc, text.as_bytes(), names, Beside::Nothing)
+    let words = fine!(format!(in alloc; "{count}{LONG}"));
+    let text = some!(repeated(alloc, words.as_str()));
+    linked_told(alloc, &text, names, Beside::Nothing)
 }
 
 /// What is told where this stands beside a function. The words are its number and the text.
 fn numbered_told(alloc: Global, kind: &str, words: &str) -> Option<String> {
-    let (number, text) = words.split_once(' ')?;
-    let at = number.parse().ok()?;
+    let (number, text) = some!(words.split_once(' '));
+    let at = fine!(number.parse());
     let beside = match kind {
         "without" => Beside::NoneAt(at),
         "astray" => Beside::FirstAt(at),
@@ -218,7 +188,7 @@ pub struct Links;
 
 impl Answers for Links {
     fn answer(&mut self, alloc: Global, question: &str, _row: u64) -> Option<String> {
-        let (kind, words) = question.split_once(' ')?;
+        let (kind, words) = some!(question.split_once(' '));
         let text = words.as_bytes();
         match kind {
             "whole" => linked_told(alloc, text, Names::InOrder, Beside::Baselines),

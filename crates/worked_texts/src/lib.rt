@@ -1,20 +1,19 @@
-//! Rows of C texts and of programs: what the lexer, the readers, the lowering and the translation make of texts, functions and programs in
-//! their forms, and C texts with known answers, through the commands and as linked programs.
+//! Rows of C texts and of programs: what the lexer and the readers make of texts, functions and programs in their forms, and C texts with
+//! known answers, through the commands and as linked programs.
 #![tactic(auto)]
 
-mod executed;
 mod expressions;
 mod form_answers;
 mod form_rows;
 mod forms;
 mod heights;
 mod joined;
+mod languages;
 mod linked;
-mod lowered;
 mod nodes;
 mod operators;
 mod program_rows;
-mod rows;
+mod ranges;
 mod runs;
 mod text_rows;
 mod texts;

@@ -1,8 +1,8 @@
 //! What the linked program of a C program does, compiled by the offers of a maker.
 
-use crate::told::Told;
+use crate::told::{Told, closing_of, told_with};
 use c_checker_rules::CProgram;
-use cfarm_run::{Closing, run};
+use cfarm_run::run;
 use chains_made::{Maker, compile};
 use lang_base::Program;
 use std::alloc::{AllocError, Global};
@@ -16,20 +16,14 @@ pub fn ran(
     program: &Program<linear_language::Function>,
 ) -> Result<Told, AllocError> {
     let mut output = Vec::new(alloc);
-    let closing = match run(alloc, program, LIMIT, &mut output) {
-        Ok(shown) => Closing(shown).to_string(alloc)?,
-        Err(fault) => format!(in alloc; "{fault}")?,
-    };
-    Ok(Told { output, closing })
+    let shown = run(alloc, program, LIMIT, &mut output);
+    told_with(output, closing_of(alloc, shown))
 }
 
 /// What the linked program of a C program prints, and how its run stands.
 pub fn linked(alloc: Global, program: &CProgram, maker: &mut Maker) -> Result<Told, AllocError> {
     match compile(alloc, program, maker) {
         Ok(made) => ran(alloc, &made),
-        Err(fault) => Ok(Told {
-            output: Vec::new(alloc),
-            closing: format!(in alloc; "{fault}")?,
-        }),
+        Err(fault) => told_with(Vec::new(alloc), format!(in alloc; "{fault}")),
     }
 }

@@ -2,19 +2,19 @@
 
 use ints::{Cond, Op, eval_c, eval_cond, eval_m};
 use std::alloc::Global;
-use worked_row_files::{numbered, owned};
+use worked_row_files::{fine, numbered, owned, some};
 
 /// A code and two words.
 fn words_of(words: &str) -> Option<(u8, [u32; 2])> {
-    let (code, words) = words.split_once(' ')?;
-    let (x, y) = words.split_once(' ')?;
-    Some((code.parse().ok()?, [x.parse().ok()?, y.parse().ok()?]))
+    let (code, words) = some!(words.split_once(' '));
+    let (x, y) = some!(words.split_once(' '));
+    Some((fine!(code.parse()), [fine!(x.parse()), fine!(y.parse())]))
 }
 
 /// The machine's answer, and whether C has one, which is then the same.
 pub fn operator_told(alloc: Global, words: &str) -> Option<String> {
-    let (code, words) = words_of(words)?;
-    let op = Op::from_code(code)?;
+    let (code, words) = some!(words_of(words));
+    let op = some!(Op::from_code(code));
     let args = &words[..op.argument_count()];
     let machine = eval_m(op, args);
     let c = eval_c(op, args).ok();
@@ -30,8 +30,8 @@ pub fn operator_told(alloc: Global, words: &str) -> Option<String> {
 
 /// Whether the condition holds.
 pub fn condition_told(alloc: Global, words: &str) -> Option<String> {
-    let (code, words) = words_of(words)?;
-    let cond = Cond::from_code(code)?;
+    let (code, words) = some!(words_of(words));
+    let cond = some!(Cond::from_code(code));
     if cond.code() != code {
         return None;
     }
@@ -41,7 +41,7 @@ pub fn condition_told(alloc: Global, words: &str) -> Option<String> {
 
 /// Whether an operator and a condition have the code.
 pub fn code_told(alloc: Global, code: &str) -> Option<String> {
-    let code = code.parse().ok()?;
+    let code = fine!(code.parse());
     let told = match (Op::from_code(code), Cond::from_code(code)) {
         (Some(_), Some(_)) => "both",
         (Some(_), None) => "operator",

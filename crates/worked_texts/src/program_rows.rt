@@ -2,10 +2,8 @@
 //! too, once of the baselines and once of the optimisers' offers. `vectors.txt` was made by an independent reading of the
 //! language, the answers in `gcc.txt`, `statements.txt` (`do`, compound assignment, `++` and `--`), `examples.txt` and
 //! `drawn.txt`, whose programs were drawn by chance, are those of a C compiler, and `rows.txt` was written by hand.
-//! `links.txt` links the baselines of two programs of known answers, and has a row for each refusal to link. `exec.txt` has
-//! linked programs, in bytes, for `exec`.
+//! `links.txt` links the baselines of two programs of known answers, and has a row for each refusal to link.
 
-use crate::executed::executed;
 use crate::joined::Links;
 use crate::linked::linked;
 use crate::told::{Told, told_of};
@@ -16,7 +14,7 @@ use chains_made::Maker;
 use rand_pcg::Pcg32;
 use std::alloc::{AllocError, Global};
 use std::{fs, io};
-use worked_row_files::{Form, Row, row_of};
+use worked_row_files::{Form, Row, done, row_of};
 
 /// How many offers were linked, and how many of them are the optimisers'.
 #[derive(Clone, Copy)]
@@ -27,14 +25,13 @@ struct Tally {
 
 /// Tells of the C texts and the linked programs.
 pub fn tell_programs(rt: &HostRuntime) -> io::Result<()> {
-    compare(rt, "vectors.txt", Form::Hex)?;
-    compare(rt, "gcc.txt", Form::Plain)?;
-    compare(rt, "statements.txt", Form::Plain)?;
-    compare(rt, "examples.txt", Form::Hex)?;
-    compare(rt, "drawn.txt", Form::Plain)?;
-    compare(rt, "rows.txt", Form::Plain)?;
-    worked_row_files::compare(rt, "links.txt", &mut Links)?;
-    execute(rt)
+    done!(compare(rt, "vectors.txt", Form::Hex));
+    done!(compare(rt, "gcc.txt", Form::Plain));
+    done!(compare(rt, "statements.txt", Form::Plain));
+    done!(compare(rt, "examples.txt", Form::Hex));
+    done!(compare(rt, "drawn.txt", Form::Plain));
+    done!(compare(rt, "rows.txt", Form::Plain));
+    worked_row_files::compare(rt, "links.txt", &mut Links)
 }
 
 /// Whether what is told of a text is what its line says.
@@ -42,100 +39,32 @@ fn is_told(told: &Told, row: &Row) -> bool {
     told.output == row.output && told.closing == row.closing
 }
 
-/// What is told of a line where it is not what the line says; a line that cannot be read differs. Where the program
-/// ends, what its RTL program and its linked programs do is compared too.
-fn difference(
-    alloc: Global,
-    form: Form,
-    line: &str,
-    seed: u64,
-    tally: &mut Tally,
-) -> Result<Option<String>, AllocError> {
-    let Some(row) = row_of(alloc, form, line) else {
-        return Ok(Some(format!(in alloc; "not a row")?));
-    };
-    let told = told_of(alloc, row.text.as_slice(), row.depth)?;
-    if !is_told(&told, &row) {
-        return Ok(Some(told.closing));
+/// A line, empty where memory did not allow it.
+fn line_or_none(alloc: Global, line: Result<String, AllocError>) -> String {
+    match line {
+        Ok(line) => line,
+        Err(_fault) => String::new(alloc),
     }
-    if !row.closing.starts_with("ended") {
-        return Ok(None);
-    }
-    compiled_difference(alloc, &row, seed, tally)
 }
 
-/// What was told by a program of this kind, where it is not what its row says.
+/// What is told, where it is not what its row says.
+fn told_apart(alloc: Global, row: &Row, kind: &str, told: &Told) -> Option<String> {
+    if is_told(told, row) {
+        return None;
+    }
+    Some(line_or_none(alloc, format!(in alloc; "{kind}: {}", told.closing)))
+}
+
+/// The same of what was told by a program of this kind, if memory allowed it.
 fn told_otherwise(
     alloc: Global,
     row: &Row,
     kind: &str,
-    told: Told,
-) -> Result<Option<String>, AllocError> {
-    if is_told(&told, row) {
-        return Ok(None);
-    }
-    Ok(Some(format!(in alloc; "{kind}: {}", told.closing)?))
-}
-
-/// What is told of the RTL program of an accepted text, where it is not what its row says.
-fn translated_difference(
-    alloc: Global,
-    program: &CProgram,
-    row: &Row,
-) -> Result<Option<String>, AllocError> {
-    let told = translated(alloc, program)?;
-    told_otherwise(alloc, row, "translated", told)
-}
-
-/// The same of the program that is linked of the baselines.
-fn linked_difference(
-    alloc: Global,
-    program: &CProgram,
-    row: &Row,
-) -> Result<Option<String>, AllocError> {
-    let told = linked(alloc, program, &mut Maker::baselines())?;
-    told_otherwise(alloc, row, "linked", told)
-}
-
-/// The same of the program that is linked of the optimisers' offers.
-fn chained_difference(
-    alloc: Global,
-    program: &CProgram,
-    row: &Row,
-    seed: u64,
-    tally: &mut Tally,
-) -> Result<Option<String>, AllocError> {
-    let told = chained(alloc, program, seed, tally)?;
-    told_otherwise(alloc, row, "chained", told)
-}
-
-/// The same of each of them in turn, the first that differs.
-fn program_difference(
-    alloc: Global,
-    program: &CProgram,
-    row: &Row,
-    seed: u64,
-    tally: &mut Tally,
-) -> Result<Option<String>, AllocError> {
-    if let Some(told) = translated_difference(alloc, program, row)? {
-        return Ok(Some(told));
-    }
-    if let Some(told) = linked_difference(alloc, program, row)? {
-        return Ok(Some(told));
-    }
-    chained_difference(alloc, program, row, seed, tally)
-}
-
-/// What is told of the programs of a text, where it is not what its row says.
-fn compiled_difference(
-    alloc: Global,
-    row: &Row,
-    seed: u64,
-    tally: &mut Tally,
-) -> Result<Option<String>, AllocError> {
-    match accept(alloc, row.text.as_slice()) {
-        Ok(program) => program_difference(alloc, &program, row, seed, tally),
-        Err(fault) => Ok(Some(format!(in alloc; "{fault}")?)),
+    told: Result<Told, AllocError>,
+) -> Option<String> {
+    match told {
+        Ok(told) => told_apart(alloc, row, kind, &told),
+        Err(_fault) => Some(String::new(alloc)),
     }
 }
 
@@ -148,17 +77,63 @@ fn chained(
     tally: &mut Tally,
 ) -> Result<Told, AllocError> {
     let mut maker = Maker::optimisers(Pcg32::new(seed, 0));
-    let told = linked(alloc, program, &mut maker)?;
+    let told = linked(alloc, program, &mut maker);
     let offers = (program.functions().len() as u64).saturating_mul(4);
     tally.offers = tally.offers.saturating_add(offers);
     tally.proposals = tally.proposals.saturating_add(maker.proposals);
-    Ok(told)
+    told
 }
 
-/// Tells how many lines of a file agree, and which do not; and how many offers are the optimisers'.
-fn compare(rt: &HostRuntime, name: &str, form: Form) -> io::Result<()> {
-    let alloc = rt.alloc();
-    let text = fs::read_to_string(rt, name)?;
+/// The same of a text's program in RTL, linked of the baselines, and linked of the optimisers' offers: the first that differs.
+fn program_difference(
+    alloc: Global,
+    program: &CProgram,
+    row: &Row,
+    seed: u64,
+    tally: &mut Tally,
+) -> Option<String> {
+    let simplest = linked(alloc, program, &mut Maker::baselines());
+    let first = told_otherwise(alloc, row, "translated", translated(alloc, program));
+    let second = told_otherwise(alloc, row, "linked", simplest);
+    let third = told_otherwise(alloc, row, "chained", chained(alloc, program, seed, tally));
+    first.or(second).or(third)
+}
+
+/// What is told of the programs of a text, where it is not what its row says.
+fn compiled_difference(alloc: Global, row: &Row, seed: u64, tally: &mut Tally) -> Option<String> {
+    match accept(alloc, row.text.as_slice()) {
+        Ok(program) => program_difference(alloc, &program, row, seed, tally),
+        Err(fault) => Some(line_or_none(alloc, format!(in alloc; "{fault}"))),
+    }
+}
+
+/// What is told of a text where it is not what its row says. Where the program ends, what its RTL program and its linked
+/// programs do is compared too.
+fn row_difference(alloc: Global, row: &Row, seed: u64, tally: &mut Tally) -> Option<String> {
+    let told = told_of(alloc, row.text.as_slice(), row.depth);
+    let told = told_otherwise(alloc, row, "told", told);
+    if told.is_some() || !row.closing.starts_with("ended") {
+        return told;
+    }
+    compiled_difference(alloc, row, seed, tally)
+}
+
+/// The same of a line; one that cannot be read differs.
+fn difference(
+    alloc: Global,
+    form: Form,
+    line: &str,
+    seed: u64,
+    tally: &mut Tally,
+) -> Option<String> {
+    match row_of(alloc, form, line) {
+        Some(row) => row_difference(alloc, &row, seed, tally),
+        None => Some(String::new(alloc)),
+    }
+}
+
+/// Tells how many lines of a text agree, and which do not; and how many offers are the optimisers'.
+fn compare_lines(rt: &HostRuntime, name: &str, text: &str, form: Form) -> io::Result<()> {
     let mut all = 0u64;
     let mut agree = 0u64;
     let mut tally = Tally {
@@ -167,9 +142,9 @@ fn compare(rt: &HostRuntime, name: &str, form: Form) -> io::Result<()> {
     };
     for line in text.lines() {
         all = all.saturating_add(1);
-        match difference(alloc, form, line, all, &mut tally)? {
+        match difference(rt.alloc(), form, line, all, &mut tally) {
             None => agree = agree.saturating_add(1),
-            Some(told) => println!(rt; "{name}:{all}: {told}")?,
+            Some(told) => done!(println!(rt; "{name}:{all}: {told}")),
         }
     }
     let Tally { offers, proposals } = tally;
@@ -178,30 +153,8 @@ fn compare(rt: &HostRuntime, name: &str, form: Form) -> io::Result<()> {
     )
 }
 
-/// What `exec` tells of a line of bytes, where it is not what the line says.
-fn exec_difference(alloc: Global, line: &str) -> Result<Option<String>, AllocError> {
-    let Some(row) = row_of(alloc, Form::Hex, line) else {
-        return Ok(Some(format!(in alloc; "not a row")?));
-    };
-    let told = executed(alloc, row.text.as_slice(), row.depth.unwrap_or(0))?;
-    if is_told(&told, &row) {
-        return Ok(None);
-    }
-    Ok(Some(told.closing))
-}
-
-/// Tells how many lines of `exec.txt` agree, and which do not.
-fn execute(rt: &HostRuntime) -> io::Result<()> {
-    let alloc = rt.alloc();
-    let text = fs::read_to_string(rt, "exec.txt")?;
-    let mut all = 0u64;
-    let mut agree = 0u64;
-    for line in text.lines() {
-        all = all.saturating_add(1);
-        match exec_difference(alloc, line)? {
-            None => agree = agree.saturating_add(1),
-            Some(told) => println!(rt; "exec.txt:{all}: {told}")?,
-        }
-    }
-    println!(rt; "exec.txt: {agree} of {all} agree")
+/// The same of a file.
+fn compare(rt: &HostRuntime, name: &str, form: Form) -> io::Result<()> {
+    let text = done!(fs::read_to_string(rt, name));
+    compare_lines(rt, name, text.as_str(), form)
 }

@@ -1,52 +1,43 @@
-//! What the readers give of small texts, and what they leave behind it.
+//! What the readers give of tokens, and what they leave behind it.
 
-use c_lexer::lex;
 use c_reader::{read, read_declaration};
 use c_reader_statements::read_block;
-use c_syntax::{Declaration, Statement};
+use c_syntax::{Declaration, Statement, Token};
 use std::alloc::Global;
-use worked_row_files::owned;
-
-/// How many statements a block has, and how many tokens are left.
-pub fn block_told(alloc: Global, text: &[u8]) -> Option<String> {
-    let tokens = lex(alloc, text).ok()?;
-    let (statements, rest) = read_block(alloc, 199, &tokens).ok()?;
-    let count = statements.len();
-    let left = rest.len();
-    format!(in alloc; "{count} {left}").ok()
-}
+use worked_row_files::{fine, owned};
 
 /// To which of two ifs an else belongs.
-pub fn else_told(alloc: Global, text: &[u8]) -> Option<String> {
-    let tokens = lex(alloc, text).ok()?;
-    let (statements, _rest) = read_block(alloc, 199, &tokens).ok()?;
-    let told = match statements.as_slice() {
+fn else_of(statements: &[Statement]) -> &'static str {
+    match statements {
         [Statement::If(_, inner)] => match &**inner {
             Statement::IfElse(_, _, _) => "inner",
             _ => "other",
         },
         _ => "outer",
-    };
-    owned(alloc, told)
+    }
 }
 
-/// Which declaration a text begins with, and how many tokens are left.
-pub fn declaration_told(alloc: Global, text: &[u8]) -> Option<String> {
-    let tokens = lex(alloc, text).ok()?;
-    let (declaration, rest) = read_declaration(alloc, &tokens).ok()?;
-    let kind = match declaration {
+/// How many statements a block has, and how many tokens are left; or to which of two ifs an else belongs.
+pub fn block_told(alloc: Global, tokens: &[Token], is_else: bool) -> Option<String> {
+    let (statements, rest) = fine!(read_block(alloc, 199, tokens));
+    if is_else {
+        return owned(alloc, else_of(&statements));
+    }
+    format!(in alloc; "{} {}", statements.len(), rest.len()).ok()
+}
+
+/// Which declaration the tokens begin with, and how many are left.
+pub fn declaration_told(alloc: Global, tokens: &[Token]) -> Option<String> {
+    let (declaration, rest) = fine!(read_declaration(alloc, tokens));
+    let kind = match &declaration {
         Declaration::Global(_) => "global",
         _ => "other",
     };
-    let left = rest.len();
-    format!(in alloc; "{kind} {left}").ok()
+    format!(in alloc; "{kind} {}", rest.len()).ok()
 }
 
 /// How many declarations a text has, and its end.
-pub fn unit_told(alloc: Global, text: &[u8]) -> Option<String> {
-    let tokens = lex(alloc, text).ok()?;
-    let unit = read(alloc, &tokens).ok()?;
-    let count = unit.declarations().len();
-    let end = unit.end();
-    format!(in alloc; "{count} {end}").ok()
+pub fn unit_told(alloc: Global, tokens: &[Token]) -> Option<String> {
+    let unit = fine!(read(alloc, tokens));
+    format!(in alloc; "{} {}", unit.declarations().len(), unit.end()).ok()
 }

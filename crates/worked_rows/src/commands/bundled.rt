@@ -8,18 +8,19 @@ use std::alloc::Global;
 use std::sync::Wait;
 use std::thread::Threads;
 use worked_fakes::{Given, Held, Put, shown};
+use worked_row_files::{fine, some};
 
 /// The status of a run, what it wrote, with `H` for the SHA-256 of these bytes, and its standard error.
 fn told_of(alloc: Global, ran: &Ran, program: &[u8]) -> Option<String> {
     let digest = Sha256::digest(program);
-    let digits = hex::encode(alloc, digest.as_slice()).ok()?;
-    let text = String::from_utf8_lossy(alloc, &ran.out).ok()?;
+    let digits = fine!(hex::encode(alloc, digest.as_slice()));
+    let text = fine!(String::from_utf8_lossy(alloc, &ran.out));
     let named = match text.split_once(digits.as_str()) {
-        Some((front, behind)) => format!(in alloc; "{front}H{behind}").ok()?,
+        Some((front, behind)) => fine!(format!(in alloc; "{front}H{behind}")),
         None => text,
     };
-    let written = shown(alloc, named.as_bytes())?;
-    let told = shown(alloc, &ran.err)?;
+    let written = some!(shown(alloc, named.as_bytes()));
+    let told = some!(shown(alloc, &ran.err));
     format!(in alloc; "{} {written} {told}", ran.status).ok()
 }
 
@@ -35,23 +36,23 @@ pub fn verified<H: Naming + Send, R: Threads + Wait + Sync, F: Files>(
     requires { F.may_lock files.now }
 {
     let alloc = here.alloc;
-    let line = format!(in alloc; "verify {text} --program {program} --bundle {bundle}").ok()?;
-    let words = words_of(alloc, line.as_str())?;
+    let line = fine!(format!(in alloc; "verify {text} --program {program} --bundle {bundle}"));
+    let words = some!(words_of(alloc, line.as_str()));
     let ran = run_over(here, &words, files, Held::ample(alloc), Held::ample(alloc));
     told_of(alloc, &ran, bytes)
 }
 
 /// What is told of a build that put a bundle alone.
 fn told_alone(alloc: Global, built: &Ran, bundle: &Put) -> Option<String> {
-    let told = told(alloc, built, &[])?;
+    let told = some!(told(alloc, built, &[]));
     format!(in alloc; "{told} {}", bundle.path).ok()
 }
 
 /// The paths of two files, and the bytes of the second.
 fn copied(alloc: Global, first: &Put, second: &Put) -> Option<(String, String, Vec<u8>)> {
-    let first = first.path.as_str().to_string(alloc).ok()?;
-    let path = second.path.as_str().to_string(alloc).ok()?;
-    let bytes = second.bytes.as_slice().to_vec(alloc).ok()?;
+    let first = fine!(first.path.as_str().to_string(alloc));
+    let path = fine!(second.path.as_str().to_string(alloc));
+    let bytes = fine!(second.bytes.as_slice().to_vec(alloc));
     Some((first, path, bytes))
 }
 
@@ -65,9 +66,9 @@ fn told_both<H: Naming + Send, R: Threads + Wait + Sync>(
     let [bundle, program] = files.put.as_slice() else {
         return None;
     };
-    let (bundle, program, bytes) = copied(alloc, bundle, program)?;
-    let told = told(alloc, built, &bytes)?;
-    let says = verified(here, files, "f", &program, &bundle, &bytes)?;
+    let (bundle, program, bytes) = some!(copied(alloc, bundle, program));
+    let told = some!(told(alloc, built, &bytes));
+    let says = some!(verified(here, files, "f", &program, &bundle, &bytes));
     format!(in alloc; "{told} {bundle} {program} {says}").ok()
 }
 

@@ -9,6 +9,7 @@ use std::io::ErrorKind;
 use std::sync::Wait;
 use std::thread::Threads;
 use worked_fakes::Held;
+use worked_row_files::{fine, some};
 
 /// A run over the files of the machine.
 fn ran_here<H: Naming + Send, R: Threads + Wait + Sync>(
@@ -32,7 +33,7 @@ pub fn answer_here<H: Naming + Send, R: Threads + Wait + Sync>(
     here: &Here<'_, H, R>,
     line: &str,
 ) -> Option<String> {
-    let words = words_of(here.alloc, line)?;
+    let words = some!(words_of(here.alloc, line));
     told(here.alloc, &ran_here(rt, here, &words), &[])
 }
 
@@ -56,7 +57,7 @@ fn is_again<H: Naming + Send, R: Threads + Wait + Sync>(
     linked: &[u8],
 ) -> Option<bool> {
     let second = ran_here(rt, here, words);
-    let again = fs::read(rt, path).ok()?;
+    let again = fine!(fs::read(rt, path));
     Some(
         second.status == first.status
             && second.out.as_slice() == first.out.as_slice()
@@ -72,8 +73,8 @@ fn told_and_done<H: Naming + Send, R: Threads + Wait + Sync>(
     linked: &[u8],
 ) -> Option<String> {
     let alloc = here.alloc;
-    let told = told(alloc, ran, linked)?;
-    let does = executed(here, linked)?;
+    let told = some!(told(alloc, ran, linked));
+    let does = some!(executed(here, linked));
     format!(in alloc; "{told} {does}").ok()
 }
 
@@ -85,9 +86,9 @@ fn twice<H: Naming + Send, R: Threads + Wait + Sync>(
     path: &str,
 ) -> Option<String> {
     let first = ran_here(rt, here, words);
-    let linked = fs::read(rt, path).ok()?;
-    let is_same = is_again(rt, here, words, path, &first, &linked)?;
-    let told = told_and_done(here, &first, &linked)?;
+    let linked = fine!(fs::read(rt, path));
+    let is_same = some!(is_again(rt, here, words, path, &first, &linked));
+    let told = some!(told_and_done(here, &first, &linked));
     let again = if is_same { "same" } else { "other" };
     format!(in here.alloc; "{told} {again}").ok()
 }
@@ -100,9 +101,9 @@ pub fn answer_twice<H: Naming + Send, R: Threads + Wait + Sync>(
     rest: &str,
 ) -> Option<String> {
     let alloc = here.alloc;
-    let (folder, line) = rest.split_once(' ')?;
-    let words = words_of(alloc, line)?;
-    let path = format!(in alloc; "{folder}/linked.cfp").ok()?;
+    let (folder, line) = some!(rest.split_once(' '));
+    let words = some!(words_of(alloc, line));
+    let path = fine!(format!(in alloc; "{folder}/linked.cfp"));
     twice(rt, here, &words, path.as_str())
 }
 
@@ -116,12 +117,12 @@ fn proved<H: Naming + Send, R: Threads + Wait + Sync>(
     bundle: &str,
 ) -> Option<String> {
     let alloc = here.alloc;
-    let text = words.get(2)?;
+    let text = some!(words.get(2));
     let ran = ran_here(rt, here, words);
-    let bytes = fs::read(rt, program).ok()?;
-    let told = told(alloc, &ran, &bytes)?;
+    let bytes = fine!(fs::read(rt, program));
+    let told = some!(told(alloc, &ran, &bytes));
     let mut files = HostFiles::over(rt, false);
-    let says = verified(here, &mut files, text, program, bundle, &bytes)?;
+    let says = some!(verified(here, &mut files, text, program, bundle, &bytes));
     format!(in alloc; "{told} {says}").ok()
 }
 
@@ -132,9 +133,9 @@ pub fn answer_proved<H: Naming + Send, R: Threads + Wait + Sync>(
     rest: &str,
 ) -> Option<String> {
     let alloc = here.alloc;
-    let (folder, line) = rest.split_once(' ')?;
-    let words = words_of(alloc, line)?;
-    let program = format!(in alloc; "{folder}/linked.cfp").ok()?;
-    let bundle = format!(in alloc; "{folder}/linked.cfb").ok()?;
+    let (folder, line) = some!(rest.split_once(' '));
+    let words = some!(words_of(alloc, line));
+    let program = fine!(format!(in alloc; "{folder}/linked.cfp"));
+    let bundle = fine!(format!(in alloc; "{folder}/linked.cfb"));
     proved(rt, here, &words, program.as_str(), bundle.as_str())
 }

@@ -8,6 +8,7 @@ use std::alloc::Global;
 use std::sync::Wait;
 use std::thread::Threads;
 use worked_fakes::{Given, Held, Put, Quiet, masked, shown};
+use worked_row_files::{fine, some};
 
 /// The threads and the hall of all runs.
 #[derive(Drop)]
@@ -30,13 +31,13 @@ pub struct Ran {
 /// The words of a command line, the program's name first.
 pub fn words_of(alloc: Global, line: &str) -> Option<Vec<String>> {
     let mut words = Vec::new(alloc);
-    words.push("cfarm".to_string(alloc).ok()?).ok()?;
+    fine!(words.push(fine!("cfarm".to_string(alloc))));
     for word in line.split(' ') {
         if word.is_empty() {
             continue;
         }
         let word = if word == "''" { "" } else { word };
-        words.push(word.to_string(alloc).ok()?).ok()?;
+        fine!(words.push(fine!(word.to_string(alloc))));
     }
     Some(words)
 }
@@ -97,10 +98,52 @@ pub fn run_over<H: Naming + Send, R: Threads + Wait + Sync, F: Files>(
 
 /// The status of a run, what it wrote and its standard error. What was built is these bytes.
 pub fn told(alloc: Global, ran: &Ran, built: &[u8]) -> Option<String> {
-    let text = String::from_utf8_lossy(alloc, &ran.out).ok()?;
-    let written = shown(alloc, masked(alloc, &text, built)?.as_bytes())?;
-    let told = shown(alloc, &ran.err)?;
+    let text = fine!(String::from_utf8_lossy(alloc, &ran.out));
+    let written = some!(shown(alloc, some!(masked(alloc, &text, built)).as_bytes()));
+    let told = some!(shown(alloc, &ran.err));
     format!(in alloc; "{} {written} {told}", ran.status).ok()
+}
+
+/// A run on a file of these bytes, with writers that never fail.
+pub fn run_amply<H: Naming + Send, R: Threads + Wait + Sync>(
+    here: &Here<'_, H, R>,
+    words: &[String],
+    text: &[u8],
+) -> Ran {
+    let alloc = here.alloc;
+    let (out, err) = (Held::ample(alloc), Held::ample(alloc));
+    run_over(here, words, &mut Given::of(alloc, text), out, err)
+}
+
+/// Bytes in hex, `-` for none.
+fn hex_of(alloc: Global, bytes: &[u8]) -> Option<String> {
+    if bytes.is_empty() {
+        return "-".to_string(alloc).ok();
+    }
+    hex::encode(alloc, bytes).ok()
+}
+
+/// The status of a run, what it wrote in hex, and its standard error.
+pub fn coded<H: Naming + Send, R: Threads + Wait + Sync>(
+    here: &Here<'_, H, R>,
+    words: &[String],
+    text: &[u8],
+) -> Option<String> {
+    let ran = run_amply(here, words, text);
+    let written = some!(hex_of(here.alloc, &ran.out));
+    let told = some!(shown(here.alloc, &ran.err));
+    format!(in here.alloc; "{} {written} {told}", ran.status).ok()
+}
+
+/// The status of a run and its standard error.
+pub fn ended<H: Naming + Send, R: Threads + Wait + Sync>(
+    here: &Here<'_, H, R>,
+    words: &[String],
+    text: &[u8],
+) -> Option<String> {
+    let ran = run_amply(here, words, text);
+    let told = some!(shown(here.alloc, &ran.err));
+    format!(in here.alloc; "{} {told}", ran.status).ok()
 }
 
 /// The output of a run; of one that is broken off and writes one byte again and again, that byte once.
@@ -122,7 +165,7 @@ pub fn executed<H: Naming + Send, R: Threads + Wait + Sync>(
     bytes: &[u8],
 ) -> Option<String> {
     let alloc = here.alloc;
-    let words = words_of(alloc, "exec f --limit 1000")?;
+    let words = some!(words_of(alloc, "exec f --limit 1000"));
     let mut files = Given::of(alloc, bytes);
     let ran = run_over(
         here,
@@ -131,8 +174,8 @@ pub fn executed<H: Naming + Send, R: Threads + Wait + Sync>(
         Held::ample(alloc),
         Held::ample(alloc),
     );
-    let written = shown(alloc, folded(&ran))?;
-    let told = shown(alloc, &ran.err)?;
+    let written = some!(shown(alloc, folded(&ran)));
+    let told = some!(shown(alloc, &ran.err));
     format!(in alloc; "{} {written} {told}", ran.status).ok()
 }
 
@@ -143,8 +186,8 @@ fn told_of_put<H: Naming + Send, R: Threads + Wait + Sync>(
     put: &Put,
 ) -> Option<String> {
     let alloc = here.alloc;
-    let told = told(alloc, ran, &put.bytes)?;
-    let does = executed(here, &put.bytes)?;
+    let told = some!(told(alloc, ran, &put.bytes));
+    let does = some!(executed(here, &put.bytes));
     format!(in alloc; "{told} {} {does}", put.path).ok()
 }
 
@@ -163,8 +206,8 @@ pub fn linked<H: Naming + Send, R: Threads + Wait + Sync>(
         Held::ample(alloc),
         Held::ample(alloc),
     );
-    let put = files.put.first()?;
-    let told = told(alloc, &ran, &put.bytes)?;
+    let put = some!(files.put.first());
+    let told = some!(told(alloc, &ran, &put.bytes));
     format!(in alloc; "{told} {}", put.path).ok()
 }
 

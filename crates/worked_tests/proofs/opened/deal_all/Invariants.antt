@@ -1,5 +1,5 @@
 use Rattle.std.proofs.Common.{◌≡◌}
-use Rattle.worked_rooms.proofs.opened.deal_all.Given as goal
+use Rattle.worked_tests.proofs.opened.deal_all.Given as goal
 
 -- the next seat is that of the next node
 abbrev pub invariant-loop-node : goal.invariant-loop-node
