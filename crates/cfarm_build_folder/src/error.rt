@@ -5,6 +5,7 @@ ghost use Rattle.cfarm_build_folder.specs.Answers.{status_of};
 
 use cfarm_build_faults::{BuildError, ToldFault};
 use cfarm_files::Reason;
+use cfarm_shown_paths::ShownPath;
 use std::fmt;
 
 /// Why a build is not done. Its text is the line that a user is shown.
@@ -44,7 +45,7 @@ impl fmt::Display for BuildingError {
                 write!(f, "{told}")
             }
             BuildingError::File(path, reason) => {
-                let tail = reason.tail();
+                let (path, tail) = (ShownPath(path.as_str()), reason.tail());
                 write!(f, "file {path}{tail}")
             }
             BuildingError::Write => write!(f, "write 701"),

@@ -1,5 +1,6 @@
 -- What a user is told of a file that is refused.
 use Rattle.std.specs.Prelude.{ℕ, List, ◌++◌, codes}
+use Rattle.cfarm_shown_paths.specs.Shown.{shown_path}
 use Rattle.cfarm_files.specs.declared.reason.Reason.{Reason}
 use Rattle.cfarm_files.specs.declared.reason.Reason.TheVariants.{Unsaid, Missing, Denied, Folder, NoFolder, ReadOnly, NoSpace, TooLarge, TooManyOpen, TooLong, Loop, Held, NotPlain, Other}
 
@@ -20,6 +21,6 @@ reason_tail Held = codes "\nanother process holds it"
 reason_tail NotPlain = codes "\nsomething else than a plain file is there"
 reason_tail Other = codes "\nthe system refuses it"
 
--- the line for the file of this path
+-- the line for the file of this path, as it is shown
 abbrev pub file_line : List ℕ → Reason → List ℕ
-file_line path reason = codes "file " ++ (path ++ reason_tail reason)
+file_line path reason = codes "file " ++ (shown_path path ++ reason_tail reason)

@@ -1,5 +1,6 @@
 //! A file that a build did not use.
 
+use cfarm_shown_paths::ShownPath;
 use std::fmt;
 
 /// A file of an offer that a build did not use, with the number and the name of what is wrong with it. Its text is the line that a user is
@@ -18,6 +19,7 @@ impl fmt::Display for Ignored<'_> {
     ghost output = { λ told. Some (ignored_line told) };
 
     fn fmt<W: fmt::Write>(&self, f: &mut fmt::Formatter<W>) -> fmt::Result {
-        write!(f, "ignored {} {} {}", self.path, self.number, self.name)
+        let (path, number, name) = (ShownPath(self.path), self.number, self.name);
+        write!(f, "ignored {path} {number} {name}")
     }
 }

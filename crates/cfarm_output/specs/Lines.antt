@@ -4,6 +4,7 @@ use Rattle.std.specs.Fmt.{decimal}
 use Rattle.lang_base.specs.Numbers.{number_of_form_error}
 use Rattle.lang_base.specs.declared.errors.FormError.{FormError}
 use Rattle.lang_base.specs.declared.errors.FormError.TheVariants as form
+use Rattle.cfarm_shown_paths.specs.Shown.{shown_path}
 
 abbrev pub form_name : FormError → List ℕ
 form_name form.NoMemory = codes "NoMemory"
@@ -16,10 +17,10 @@ form_name form.TooLarge = codes "TooLarge"
 abbrev pub form_line : FormError → List ℕ
 form_line fault = codes "refused " ++ (decimal (number_of_form_error fault) ++ (codes " " ++ form_name fault))
 
--- the same with the path of the file of the bytes; that memory was refused is told alone
+-- the same with the path of the file of the bytes, as it is shown; that memory was refused is told alone
 abbrev pub form_line_in : FormError → List ℕ → List ℕ
 form_line_in form.NoMemory path = codes "memory"
-form_line_in fault path = form_line fault ++ (codes " in " ++ path)
+form_line_in fault path = form_line fault ++ (codes " in " ++ shown_path path)
 
 -- 7 for want of memory, else 1
 abbrev pub form_status_of : FormError → ℕ

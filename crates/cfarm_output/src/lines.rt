@@ -3,6 +3,7 @@
 ghost use Rattle.std.specs.Prelude.{◌≡◌};
 ghost use Rattle.cfarm_output.specs.Lines.{form_name, form_status_of};
 
+use cfarm_shown_paths::ShownPath;
 use lang_base::FormError;
 use std::fmt;
 
@@ -46,7 +47,7 @@ impl<'a> fmt::Display for FormLineIn<'a> {
     ghost output = { λ l. Some (form_line_in l.0 l.1.now) };
 
     fn fmt<W: fmt::Write>(&self, f: &mut fmt::Formatter<W>) -> fmt::Result {
-        let path = self.1;
+        let path = ShownPath(self.1);
         match self.0 {
             FormError::NoMemory => write!(f, "memory"),
             fault => {

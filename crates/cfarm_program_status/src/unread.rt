@@ -9,6 +9,7 @@ ghost use Rattle.cfarm_program_status.specs.Reading.{unread};
 use crate::telling::{tell, tell_among, tell_no_memory};
 use cfarm_files::{FileFault, Reason};
 use cfarm_output::ErrorLines;
+use cfarm_shown_paths::ShownPath;
 use std::fmt;
 
 /// The status for a file that cannot be read.
@@ -29,7 +30,7 @@ impl fmt::Display for Unread<'_> {
     ghost output = { λ file. Some (file_line file.0.now file.1) };
 
     fn fmt<W: fmt::Write>(&self, f: &mut fmt::Formatter<W>) -> fmt::Result {
-        let (path, tail) = (self.0, self.1.tail());
+        let (path, tail) = (ShownPath(self.0), self.1.tail());
         write!(f, "file {path}{tail}")
     }
 }
