@@ -13,10 +13,14 @@ SEVEN = b"int main(void){return 7;}\n"
 class Edge:
     """Cases over fresh folders; each has to answer as it should and to leave the files as they should be."""
 
-    def __init__(self, said):
+    def __init__(self, said, trials=0):
         parser = argparse.ArgumentParser(description=said, formatter_class=argparse.RawDescriptionHelpFormatter)
         parser.add_argument("--program", default=PROGRAM, help="the program that is tried")
-        self.program = os.path.realpath(parser.parse_args().program)
+        if trials:
+            parser.add_argument("--trials", type=int, default=trials, help=f"how many are drawn ({trials})")
+            parser.add_argument("--seed", type=int, default=1, help="what the draws begin with (1)")
+        self.given = parser.parse_args()
+        self.program = os.path.realpath(self.given.program)
         self.tried = self.wrong = 0
 
     def folder(self):

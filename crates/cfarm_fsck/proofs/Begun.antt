@@ -21,6 +21,11 @@ pub prints_behind : {W T : Type 0} (contents : W → Option (List ℕ)) (front t
 prints_behind contents front text (Ok x) before mid after first more = Appends-trans (contents before) (contents mid) (contents after) front text first more
 prints_behind contents front text (Err e) before mid after first begun = begun_behind front text (contents before) (contents mid) (contents after) first begun
 
+-- the same bytes in another form
+pub prints_same : {W T : Type 0} (contents : W → Option (List ℕ)) {text other : List ℕ} (r : Result T FsckError) (before after : W)
+    → text ≡ other → Prints contents text r before after → Prints contents other r before after
+prints_same contents r before after is printed = subst (λ l. Prints contents l r before after) is printed
+
 -- a beginning of a front is one of all
 pub begun_longer : (front text : List ℕ) (before after : Option (List ℕ)) → IsBegun front before after → IsBegun (front ++ text) before after
 begun_longer front text before after begun =

@@ -1,6 +1,5 @@
-pub mod ChosenLemmas
+pub mod Voters
 pub mod Begun
-pub mod Answered
 pub mod Accepted
 pub mod Opening
-pub mod Telling
+pub mod Opened

@@ -1,6 +1,6 @@
-pub mod Chosen
 pub mod Lines
 pub mod Folder
+pub mod Opened
 pub mod Printed
 pub mod Telling
 pub mod Told

@@ -3,7 +3,7 @@ use Rattle.std.specs.Prelude.{ℕ, suc, if◌then◌else◌, List, [], ◌∷◌
 use Rattle.std.specs.Fmt.{decimal}
 use Rattle.paxos_core_world.specs.declared.vote.Vote.{Vote}
 use Rattle.paxos_core_world.specs.KeptPart.{KeptPart}
-use Rattle.cfarm_fsck.specs.Chosen.{chosen_in, is_under}
+use Rattle.cfarm_fsck_chosen.specs.Chosen.{chosen_in, is_under}
 
 -- the number of a node behind a blank, where its last vote is under this ballot
 abbrev pub voter : ℕ → ℕ → Option Vote → List ℕ

@@ -44,6 +44,10 @@ room_lines accept kept functions = lines_from (λ f (x : Named Function). four_l
 abbrev pub last_lines : ℕ → List (Vec KeptPart) → List (Named Function) → List ℕ
 last_lines accept kept functions = room_lines accept kept functions ++ codes "ok\n"
 
+-- of the whole folder, but for the last
+abbrev pub front_lines : ℕ → List (Named Function) → List (ℕ × Vec Record) → List (Vec KeptPart) → List ℕ
+front_lines accept functions journals kept = node_lines journals ++ room_lines accept kept functions
+
 -- of the whole folder
 abbrev pub folder_lines : ℕ → List (Named Function) → List (ℕ × Vec Record) → List (Vec KeptPart) → List ℕ
 folder_lines accept functions journals kept = node_lines journals ++ last_lines accept kept functions

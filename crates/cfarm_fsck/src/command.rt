@@ -1,15 +1,18 @@
 //! The whole command.
 
 ghost use Rattle.std.specs.Prelude.{◌≡◌, ◌≤◌, length, IfOk, IfErr};
+ghost use Rattle.cfarm_fsck_chosen.specs.Linking.{IsFirstUnchained};
+ghost use Rattle.cfarm_fsck.specs.Opened.{IsToldOfOpened};
 ghost use Rattle.cfarm_fsck.specs.Told.{IsToldOrRefused, IsFaultOf, Opens};
 
 use crate::error::FsckError;
 use crate::journals::journals_of;
-use crate::printing::print_folder;
+use crate::printing::{print_folder, print_front};
 use acceptor_log_form::Record;
+use cfarm_fsck_chosen::unchained_in;
 use cfarm_fsck_journals::NodeFiles;
 use farm_nodes_open_seats::{OpenFault, rooms_of};
-use lang_base::Program;
+use lang_base::{Named, Program};
 use paxos_core_world::kept::Kept;
 use paxos_core_world::quorum::Quorums;
 use rooms_hall::{Hall, Naming};
@@ -55,9 +58,51 @@ fn opened<H: Naming, R: Threads + Wait + Sync>(
     }
 }
 
+/// Tells what stands in journals of which this function's chosen offers are the first that do not go on one from the other.
+fn tell_unchained<W: Write>(
+    alloc: Global,
+    functions: &[Named<Function>],
+    accept: u8,
+    journals: &[(usize, Vec<Record>)],
+    kept: &[Vec<Kept>],
+    function: usize,
+    out: &mut W,
+) -> Result<(), FsckError>
+    requires few { length functions.now ≤ 64 }
+    requires first { IsFirstUnchained accept journals.now kept.now functions.now function }
+    ensures { IsToldOfOpened accept functions.now journals.now kept.now result (W.contents out.old) (W.contents out.new) }
+{
+    match print_front(alloc, functions, accept, journals, kept, out) {
+        Ok(()) => Err(FsckError::Unchained(function)),
+        Err(fault) => Err(fault),
+    }
+}
+
+/// Tells what stands in journals that a farm opens over, which list these records and leave these kept parts.
+#[tactic(auto, using(crate::proofs::Opened::whole, crate::proofs::Opened::kept_bytes))]
+fn tell_opened<W: Write>(
+    alloc: Global,
+    functions: &[Named<Function>],
+    accept: u8,
+    journals: &[(usize, Vec<Record>)],
+    kept: &[Vec<Kept>],
+    out: &mut W,
+) -> Result<(), FsckError>
+    requires { length functions.now ≤ 64 }
+    ensures { IsToldOfOpened accept functions.now journals.now kept.now result (W.contents out.old) (W.contents out.new) }
+{
+    let Ok(unchained) = unchained_in(alloc, accept, journals, kept, functions) else {
+        return Err(FsckError::NoMemory);
+    };
+    match unchained {
+        None => print_folder(alloc, functions, accept, journals, kept, out),
+        Some(number) => { tell_unchained(alloc, functions, accept, journals, kept, number, out) }
+    }
+}
+
 /// Reads the journals of a folder as a farm with these quorums over this program would, whose text has this digest, and tells of each node how
-/// much its journal has, and of each room the vote that was chosen there, if an accept quorum's last votes show one. Offers are checked
-/// again, by as many threads as there are nodes. The caller buffers; all is flushed.
+/// much its journal has, and of each room the vote that was chosen there, if an accept quorum's last votes show one. The first function whose
+/// chosen offers do not go on one from the other is told. Offers are checked again, by as many threads as there are nodes. The caller buffers; all is flushed.
 pub fn fsck<H: Naming, R: Threads + Wait + Sync, W: Write>(
     rt: &R,
     alloc: Global,
@@ -76,10 +121,9 @@ pub fn fsck<H: Naming, R: Threads + Wait + Sync, W: Write>(
         Ok(found) => found,
         Err(fault) => return Err(FsckError::Disks(fault)),
     };
-    let functions = program.functions.as_slice();
-    print_folder(
+    tell_opened(
         alloc,
-        functions,
+        program.functions.as_slice(),
         quorums.accept(),
         journals.as_slice(),
         kept.as_slice(),

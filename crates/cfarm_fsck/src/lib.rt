@@ -1,19 +1,14 @@
 //! The command `fsck`: from the bytes of a folder's journals to lines on a writer. Nothing is written but those: the journals are read as a
 //! farm over the folder would read them, and are refused as that would refuse them; then the last votes of each room are told, and the vote
-//! that an accept quorum's last votes are of.
+//! that an accept quorum's last votes are of; and a function is refused whose chosen offers would never be linked.
 #![tactic(auto)]
 
-mod chosen;
 mod command;
 mod error;
 mod journals;
-mod laws;
 mod lines;
-mod parts;
 mod printing;
 
-pub use chosen::chosen_in;
 pub use command::fsck;
 pub use error::FsckError;
-pub use laws::chosen_exactly;
 pub use lines::{node_line, room_rest};

@@ -2,7 +2,7 @@ ghost use Rattle.std.specs.Prelude.{◌≡◌, ◌++◌, IfOk, OnOk};
 ghost use Rattle.std.specs.String.{string_bytes};
 ghost use Rattle.cfarm_fsck.specs.Lines.{node_line, room_rest, told_of, voter, voters_from};
 
-use crate::chosen::{chosen_in, is_under};
+use cfarm_fsck_chosen::{chosen_in, is_under};
 use lang_base::NoMemory;
 use paxos_core_world::kept::Kept;
 use paxos_core_world::vote::Vote;

@@ -1,14 +1,14 @@
 //! Printing what is told of a folder. Where the writer or memory fails a beginning of it was printed.
 
-ghost use Rattle.std.specs.Prelude.{◌≡◌, ◌⊎◌, ◌≤◌, ◌<◌, ◌++◌, length, codes, IfErr, IfOk};
+ghost use Rattle.std.specs.Prelude.{◌≡◌, ◌⊎◌, ◌≤◌, ◌<◌, ◌++◌, [], length, codes, IfErr, IfOk};
 ghost use Rattle.std.specs.String.{string_bytes};
 ghost use Rattle.cfarm_fsck.specs.Printed.{Prints};
-ghost use Rattle.cfarm_fsck.specs.Telling.{folder_lines, four_lines, journal_line, last_lines, node_lines, rest_of_room, room_line, room_lines, two_lines};
+ghost use Rattle.cfarm_fsck.specs.Telling.{folder_lines, four_lines, front_lines, journal_line, last_lines, node_lines, rest_of_room, room_line, room_lines, two_lines};
 
 use crate::error::FsckError;
 use crate::lines::{node_line, room_rest};
-use crate::parts::room_parts;
 use acceptor_log_form::Record;
+use cfarm_fsck_chosen::room_parts;
 use cfarm_output::{print_all, print_whole};
 use lang_base::{Named, NoMemory};
 use paxos_core_world::kept::Kept;
@@ -239,6 +239,54 @@ pub(crate) fn print_folder<W: Write>(
 {
     match print_nodes(alloc, journals, out) {
         Ok(()) => print_rest(alloc, functions, accept, kept, out),
+        Err(fault) => Err(fault),
+    }
+}
+
+/// Flushes what was printed.
+fn flush<W: Write>(out: &mut W) -> Result<(), FsckError>
+    ensures printed { Prints W.contents [] result out.old out.new }
+    ensures err { IfErr result (λ e. (e ≡ FsckError.NoMemory) ⊎ (e ≡ FsckError.Write)) }
+{
+    match print_whole(out, b"") {
+        Ok(()) => Ok(()),
+        Err(_) => Err(FsckError::Write),
+    }
+}
+
+/// Prints the lines of all rooms, and flushes them.
+fn print_rooms_whole<W: Write>(
+    alloc: Global,
+    functions: &[Named<Function>],
+    accept: u8,
+    kept: &[Vec<Kept>],
+    out: &mut W,
+) -> Result<(), FsckError>
+    requires { length functions.now ≤ 64 }
+    ensures printed { Prints W.contents (room_lines accept kept.now functions.now) result out.old out.new }
+    ensures err { IfErr result (λ e. (e ≡ FsckError.NoMemory) ⊎ (e ≡ FsckError.Write)) }
+{
+    match print_rooms(alloc, functions, accept, kept, out) {
+        Ok(()) => flush(out),
+        Err(fault) => Err(fault),
+    }
+}
+
+/// Prints all lines but the last, and flushes them.
+pub(crate) fn print_front<W: Write>(
+    alloc: Global,
+    functions: &[Named<Function>],
+    accept: u8,
+    journals: &[(usize, Vec<Record>)],
+    kept: &[Vec<Kept>],
+    out: &mut W,
+) -> Result<(), FsckError>
+    requires { length functions.now ≤ 64 }
+    ensures printed { Prints W.contents (front_lines accept functions.now journals.now kept.now) result out.old out.new }
+    ensures err { IfErr result (λ e. (e ≡ FsckError.NoMemory) ⊎ (e ≡ FsckError.Write)) }
+{
+    match print_nodes(alloc, journals, out) {
+        Ok(()) => print_rooms_whole(alloc, functions, accept, kept, out),
         Err(fault) => Err(fault),
     }
 }

@@ -1,3 +1,4 @@
 mod Files
 mod Ready
 mod Statuses
+pub mod Unlinked

@@ -2,6 +2,7 @@ pub mod Looking
 pub mod Lost
 pub mod Reading
 pub mod Saying
+pub mod Unlinked
 pub use Rattle.cfarm_build_faults.specs.Numbers
 pub use Rattle.cfarm_build_faults.specs.Statuses
 pub use Rattle.cfarm_build_faults.specs.declared.error.BuildError

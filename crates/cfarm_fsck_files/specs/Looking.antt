@@ -19,12 +19,14 @@ use Rattle.cfarm_files.specs.declared.files.Files as filing
 use Rattle.cfarm_files.specs.declared.fault.FileFault.TheVariants as file
 use Rattle.cfarm_fsck.specs.Told as fsck
 use Rattle.cfarm_fsck.specs.declared.error.FsckError.{FsckError}
-use Rattle.cfarm_fsck.specs.declared.error.FsckError.TheVariants.{Disks, NoMemory, Write}
+use Rattle.cfarm_fsck.specs.declared.error.FsckError.TheVariants.{Disks, Unchained, NoMemory, Write}
 use Rattle.cfarm_fsck_journals.specs.declared.files.NodeFiles.{NodeFiles}
 use Rattle.cfarm_program_status.specs.Reading.{Coming, unread}
-use Rattle.cfarm_program_status.specs.Telling.{Answer, no_memory, quiet, told, unwritten}
+use Rattle.cfarm_output.specs.Errors.{ErrorsHeld}
+use Rattle.cfarm_program_status.specs.Telling.{Answer, IsToldAs, no_memory, quiet, told, unwritten}
 use Rattle.cfarm_fsck_files.specs.Lost.{lost_lines}
 use Rattle.cfarm_fsck_files.specs.Reading.{AreRead, HasUnread}
+use Rattle.cfarm_fsck_files.specs.Unlinked.{IsUnchainedTold}
 use Rattle.cfarm_fsck_files.specs.declared.unread.Unread.{Unread}
 use Rattle.cfarm_fsck_files.specs.declared.unread.Unread.TheVariants as unread_by
 
@@ -32,15 +34,21 @@ use Rattle.cfarm_fsck_files.specs.declared.unread.Unread.TheVariants as unread_b
 abbrev pub build_fault : BuildError → Answer
 build_fault fault = told (status_of fault) (told_line fault)
 
--- a folder is refused as `build` would refuse it
-abbrev pub fsck_fault : FsckError → Answer
-fsck_fault (Disks fault) = build_fault (build.Disks fault)
-fsck_fault NoMemory = no_memory
-fsck_fault Write = unwritten
+-- A folder is refused as `build` would refuse it, and so is a function whose chosen offers are never linked, behind these lines.
+abbrev pub IsFsckFault : Source → (lines : List ℕ) → FsckError → Answer → Type 0
+IsFsckFault source lines (Disks fault) answer = answer ≡ build_fault (build.Disks fault)
+IsFsckFault source lines (Unchained function) answer = IsUnchainedTold source lines function answer
+IsFsckFault source lines NoMemory answer = answer ≡ no_memory
+IsFsckFault source lines Write answer = answer ≡ unwritten
 
 abbrev pub unread_fault : Unread → Answer
 unread_fault unread_by.NoMemory = no_memory
 unread_fault (unread_by.File path reason) = unread (string_bytes path) (file.Refused reason)
+
+-- so it is said on standard error
+abbrev pub IsSaidOfFault : Source → (lines : List ℕ) → FsckError → (status : ℕ) → ErrorsHeld → ErrorsHeld → Type 0
+IsSaidOfFault source lines fault status before after =
+    (answer : Answer) × IsFsckFault source lines fault answer × IsToldAs answer status before after
 
 -- these lines are told, where there are some, and nothing is wrong
 abbrev pub with_lines : List ℕ → Answer
@@ -52,7 +60,8 @@ abbrev pub Found : Sizes → Source → List NodeFiles → Coming
 Found q source files answer before after =
     (fsck.IsTold q source.digest (arc_value source.translated) files before after
     × (answer ≡ with_lines (lost_lines files)))
-    ⊎ ((fault : FsckError) × fsck.IsNotTold q source.digest (arc_value source.translated) files fault before after × (answer ≡ fsck_fault fault))
+    ⊎ ((fault : FsckError) × fsck.IsNotTold q source.digest (arc_value source.translated) files fault before after
+    × IsFsckFault source (lost_lines files) fault answer)
 
 module _ {F D L : Type 0} (over : filing.Ghosts F D L) (folder : List ℕ) (q : Sizes) where
   -- the files are read as this lock holds them, and so it comes; or the first that is refused is told, and then nothing is printed

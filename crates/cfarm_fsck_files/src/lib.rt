@@ -5,6 +5,7 @@
 mod looking;
 mod lost;
 mod reading;
+mod unchained;
 mod unread;
 
 pub use looking::look_through;

@@ -2,7 +2,9 @@
 
 ghost use Rattle.std.specs.Prelude.{◌≡◌, ◌≤◌, length};
 ghost use Rattle.std.specs.Arc.{arc_value};
-ghost use Rattle.cfarm_fsck_files.specs.Looking.{Found, OfFiles, OfLocked, build_fault, fsck_fault, unread_fault, with_lines};
+ghost use Rattle.std.specs.String.{string_bytes};
+ghost use Rattle.cfarm_fsck_files.specs.Looking.{Found, IsSaidOfFault, OfFiles, OfLocked, build_fault, unread_fault, with_lines};
+ghost use Rattle.cfarm_fsck_files.specs.Unlinked.{IsReady, IsWithin};
 ghost use Rattle.cfarm_fsck_files.specs.Saying.{LookedOver};
 ghost use Rattle.cfarm_program_status.specs.Reading.{Says};
 ghost use Rattle.cfarm_program_status.specs.Trace.{shown};
@@ -13,6 +15,7 @@ ghost use Rattle.cfarm_program_status.specs.Telling.{IsToldAs};
 
 use crate::lost::lost_lines;
 use crate::reading::read_files;
+use crate::unchained::tell_unchained;
 use crate::unread::Unread;
 use cfarm_build_faults::{BuildError, ToldFault};
 use cfarm_files::{FileFault, Files, lock_path};
@@ -38,13 +41,23 @@ fn tell_build<E: ErrorLines>(err: &mut E, fault: BuildError) -> u8
     tell(err, ToldFault(&fault), status)
 }
 
-/// Tells why a folder is not told.
-fn tell_error<E: ErrorLines>(err: &mut E, fault: FsckError) -> u8
-    ensures told { IsToldAs (fsck_fault fault) result (E.contents err.old) (E.contents err.new) }
+/// Tells why a folder is not told, with these lines in front of a function that is never linked.
+#[tactic(auto, using(crate::proofs::Unlinked::said_disks, crate::proofs::Unlinked::said_no_memory, crate::proofs::Unlinked::said_unwritten))]
+fn tell_error<E: ErrorLines>(
+    alloc: Global,
+    source: &Source,
+    lines: String,
+    err: &mut E,
+    fault: FsckError,
+) -> u8
+    requires ready { IsReady source.now }
+    requires within { IsWithin source.now fault }
+    ensures told { IsSaidOfFault source.now (string_bytes lines) fault result (E.contents err.old) (E.contents err.new) }
     ensures table { result ≤ 7 }
 {
     match fault {
         FsckError::Disks(fault) => tell_build(err, BuildError::Disks(fault)),
+        FsckError::Unchained(function) => tell_unchained(alloc, source, function, lines, err),
         FsckError::NoMemory => tell_no_memory(err),
         FsckError::Write => tell(err, "write 701", UNWRITTEN),
     }
@@ -72,7 +85,8 @@ fn tell_lines<E: ErrorLines>(err: &mut E, lines: &str) -> u8
     }
 }
 
-/// Tells what stands in the files, and which nodes have no journal.
+/// Tells what stands in the files, which nodes have no journal, and which function is never linked.
+#[tactic(auto, using(crate::proofs::Unlinked::within_of))]
 fn tell_found<H: Naming, R: Threads + Wait + Sync, W: Write, E: ErrorLines>(
     rt: &R,
     alloc: Global,
@@ -84,7 +98,7 @@ fn tell_found<H: Naming, R: Threads + Wait + Sync, W: Write, E: ErrorLines>(
     err: &mut E,
 ) -> u8
     requires size { length found.now ≡ quorums.nodes }
-    requires functions { length (arc_value source.now.translated).functions ≤ 64 }
+    requires ready { IsReady source.now }
     ensures does { Says W.contents E.contents (Found quorums source.now found.now) (shown result out err) }
     ensures table { result ≤ 7 }
 {
@@ -94,7 +108,7 @@ fn tell_found<H: Naming, R: Threads + Wait + Sync, W: Write, E: ErrorLines>(
     };
     match fsck::<H, R, Paced<W>>(rt, alloc, hall, &source.digest, begun, quorums, found, out) {
         Ok(()) => tell_lines(err, lines.as_str()),
-        Err(fault) => tell_error(err, fault),
+        Err(fault) => tell_error(alloc, source, lines, err, fault),
     }
 }
 
@@ -112,7 +126,7 @@ fn tell_files<H: Naming, R: Threads + Wait + Sync, F: Files, W: Write, E: ErrorL
     err: &mut E,
 ) -> u8
     requires locked { CoversFolder (F.covers lock.now) folder.now }
-    requires functions { length (arc_value source.now.translated).functions ≤ 64 }
+    requires ready { IsReady source.now }
     ensures does { Says W.contents E.contents (OfFiles F.Files folder.now quorums lock.now source.now) (shown result out err) }
     ensures table { result ≤ 7 }
 {
@@ -135,7 +149,7 @@ fn tell_locked<H: Naming, R: Threads + Wait + Sync, F: Files, W: Write, E: Error
     err: &mut E,
 ) -> u8
     requires leave { F.may_lock files.now }
-    requires functions { length (arc_value source.now.translated).functions ≤ 64 }
+    requires ready { IsReady source.now }
     ensures does { Says W.contents E.contents (OfLocked F.Files folder.now quorums source.now) (shown result out err) }
     ensures made { Makes (F.placed files.old) (F.placed files.new) (λ path. path ≡ lock_path folder.now) }
     ensures unused { UsesNone (F.used files.old) (F.used files.new) }
@@ -156,6 +170,7 @@ fn tell_locked<H: Naming, R: Threads + Wait + Sync, F: Files, W: Write, E: Error
 /// `fsck`: looks through the journals of a folder as a farm with these quorums over the program of a C text would open them, and tells what it
 /// finds, or the fault with which `build` would refuse the text or the folder. The text comes first, then the folder's lock, which is taken once
 /// and held to the end, then the files, which are read under it. Offers are checked again, by threads of `rt`.
+#[tactic(auto, using(crate::proofs::Unlinked::ready_of))]
 pub fn look_through<H: Naming, R: Threads + Wait + Sync, F: Files, W: Write, E: ErrorLines>(
     rt: &R,
     alloc: Global,

@@ -29,7 +29,7 @@ fn have_records(found: &[NodeFiles]) -> bool
 }
 
 /// Ends the text's last line, where it has one.
-fn push_end(text: &mut String) -> Result<(), NoMemory>
+pub(crate) fn push_end(text: &mut String) -> Result<(), NoMemory>
     ensures { OnOk result (string_bytes text.new ≡ ended (string_bytes text.old)) }
 {
     match text.as_bytes() {

@@ -3,7 +3,7 @@ use Rattle.std.proofs.Common.{◌≡◌, ◌++◌, ◌∙◌, ℕ, List, Option,
 use Rattle.std.specs.String.{string_bytes}
 use Rattle.paxos_core_world.specs.declared.vote.Vote.{Vote}
 use Rattle.cfarm_fsck.specs.Lines.{voter, voters_from}
-use Rattle.cfarm_fsck.proofs.ChosenLemmas.{voters_next}
+use Rattle.cfarm_fsck.proofs.Voters.{voters_next}
 use Rattle.cfarm_fsck.proofs.lines.push_voters.Goals as goal
 
 pub loop-number-preserved : goal.loop-number-preserved
