@@ -2,12 +2,12 @@
 """Native code: what `native` writes, what gcc makes of it, and what that does: native.py [--program PATH] [--drawn N] [PART..]
 
 texts: of each example, of divisions by constants and of drawn programs, built by three nodes, drawn and for speed: the text is that of a second writer
-(native_text.py), on standard output, in a file, and under a prefix; and what gcc makes of it, also static and at a fixed place, prints and ends as `exec`
-tells.
+(native_text.py), on standard output, in a file, and under a prefix, and so is its header; and what gcc makes of it, also static and at a fixed place,
+prints and ends as `exec` tells.
 wrong: programs that go wrong behind an output: that output, `wrong`, status 5.
 deep: calls in one another under small stacks: the answer, or `memory` and status 7, never a signal.
 full: an output that takes nothing: `write 701`, status 4.
-exports: functions with up to ten parameters, and main, called from C, in a library whose globals stay between calls.
+exports: functions with up to ten parameters, and main, called from C by their header, in a library whose globals stay between calls.
 refused: bytes that spell no program are refused as `exec` refuses them; prefixes that are no C names; and paths that are kept.
 
 It prints what is wrong, and counts; its status is 1 where something was."""
@@ -44,8 +44,8 @@ DIVIDED = (PUT + "unsigned u(unsigned n){unsigned s=n;" + "".join(f"s=31u*s+n/{d
            "int main(void){unsigned s=0u;unsigned n=1u;unsigned r;for(int t=0;t<64;t=t+1){n=n*2654435761u+(unsigned)t;r=u(n);s=31u*s+r;r=i((int)n);s=31u*s+r;"
            "putchar((int)(s%256u));}return (int)(s%100000u);}")
 CALLER = """#include <stdio.h>
-int t_add(int); unsigned t_eight(unsigned, unsigned, unsigned, unsigned, unsigned, unsigned, unsigned, unsigned); void t_none(void); int t_main(void);
-int t_ten(int, int, int, int, int, int, int, int, int, int);
+#include "library.h"
+#include "library.h"
 int main(void) {
     printf("%u ", t_eight(1, 20, 300, 4000, 50000, 600000, 7000000, 80000000));
     printf("%d ", t_ten(1, 2, 30, 40, 500, 600, 7000, 8000, 90000, 100000));
@@ -120,6 +120,10 @@ def texts(tried, count):
                 tried.same(f"{name} {way} text {prefix}", tried.call("native", path, *options), (0, written, ""))
                 tried.same(f"{name} {way} put {prefix}", tried.call("native", path, "-o", tried.path("put.s"), *options), (0, b"", ""))
                 with open(tried.path("put.s"), "rb") as file: tried.same(f"{name} {way} file {prefix}", file.read(), written)
+            header = native_text.header_of(data, "p_").encode()
+            tried.same(f"{name} {way} header", tried.call("native", path, "--header", "--export", "p_"), (0, header, ""))
+            tried.same(f"{name} {way} put header", tried.call("native", path, "-o", tried.path("put.h"), "--header", "--export", "p_"), (0, b"", ""))
+            with open(tried.path("put.h"), "rb") as file: tried.same(f"{name} {way} file header", file.read(), header)
             does = wanted(tried.call("exec", path, *BOUND))
             for options in ([], ["-static"], ["-no-pie"]) if not name.startswith("drawn") else ([],):
                 tried.same(f"{name} {way} {options}", ran([tried.made(path, *options)]), does)
@@ -156,9 +160,12 @@ def exports(tried, _count):
         path = tried.built(SUMS, "--optimise", way)
         status, text, told = tried.call("native", path, "--export", "t_")
         assert status == 0, told
+        status, header, told = tried.call("native", path, "--export", "t_", "--header")
+        assert status == 0, told
+        tried.put("library.h", header)
         caller, library, made = tried.put("caller.c", CALLER), tried.put("library.s", text), tried.path("called")
         for options in ([], ["-O2"], ["-static"]):
-            subprocess.run(["gcc", *options, caller, library, "-o", made], check=True)
+            subprocess.run(["gcc", "-Wall", "-Werror", "-Wno-format", *options, caller, library, "-o", made], check=True)
             values = [1, 20, 300, 4000, 50000, 600000, 7000000, 80000000]
             eight = sum(a * b for a, b in zip((1, 3, 5, 7, 11, 13, 17, 19), values)) % 2**32
             ten, total = -1 + 2 * -10 + 3 * -100 + 5 * -1000 + 7 * -10000, 100000

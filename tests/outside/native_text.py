@@ -1,5 +1,5 @@
 #!/usr/bin/env python3
-"""The assembly text of a linked program, by a second writer: native_text.py PROGRAM.cfp [PREFIX]
+"""The assembly text of a linked program, or the header of what it exports, by a second writer: native_text.py PROGRAM.cfp [PREFIX [--header]]
 
 Reads the bytes as docs/FORMATS has them, and writes the text as docs/NATIVE has it; it knows nothing of the Rattle code. The fixed text stands below
 word for word, since it is trusted and not made."""
@@ -323,5 +323,15 @@ def text_of(data, prefix=None):
     return doors + code + ROUTINES + "".join(variable(n, *v) for n, v in enumerate(variables)) + NOTE
 
 
+def header_of(data, prefix):
+    """The header of C that declares each function under the prefix."""
+    lines = [f"#ifndef {prefix}0_HEADER", f"#define {prefix}0_HEADER"]
+    for name, parameters, _, code in program(data)[1]:
+        gives = any(i[0] == "return" and i[1] is not None for i in code)
+        lines.append(f"{'unsigned' if gives else 'void'} {prefix}{name}({', '.join('unsigned' for _ in parameters) or 'void'});")
+    return "\n".join(lines + ["#endif", ""])
+
+
 if __name__ == "__main__":
-    with open(sys.argv[1], "rb") as file: sys.stdout.write(text_of(file.read(), *sys.argv[2:3]))
+    with open(sys.argv[1], "rb") as file: data = file.read()
+    sys.stdout.write(header_of(data, sys.argv[2]) if sys.argv[3:] == ["--header"] else text_of(data, *sys.argv[2:3]))

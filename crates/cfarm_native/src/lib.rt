@@ -1,7 +1,7 @@
-//! The command `native`: the assembly text of a linked program, from the bytes of its file.
+//! The command `native`: the assembly text of a linked program, or the header of its functions, from the bytes of its file.
 #![tactic(auto)]
 
 mod reading;
 mod writing;
 
-pub use writing::{native, native_of};
+pub use writing::{Form, native, native_of};

@@ -3,7 +3,7 @@ use Rattle.std.specs.Prelude.{◌≡◌, ◌≢◌, ◌⊎◌, ℕ, List, ◌++�
 use Rattle.std.specs.Borrow.{Bor}
 use Rattle.std.specs.Io.KnownBytes.{Appends}
 use Rattle.cfarm_files.specs.declared.fault.FileFault.{FileFault}
-use Rattle.cfarm_native.specs.Told.{IsTextOfBytes, IsUnmade}
+use Rattle.cfarm_native.specs.Told.{IsTextOfBytes, IsUnmade, code_text}
 use Rattle.cfarm_output.specs.Begun.{IsBegun}
 use Rattle.cfarm_run.specs.ExecLines.{exec_line}
 use Rattle.cfarm_run.specs.ExecStatuses as exec
@@ -33,11 +33,11 @@ HasLine line answer before after =
 module _ (program native : List ℕ) where
   -- the file's text is that of the native code of the program that the bytes spell
   abbrev pub IsNative : Type 0
-  IsNative = IsTextOfBytes program None native
+  IsNative = IsTextOfBytes program (code_text None) native
 
   -- that is another
   abbrev pub IsAnother : Type 0
-  IsAnother = (made : List ℕ) × IsTextOfBytes program None made × (native ≢ made)
+  IsAnother = (made : List ℕ) × IsTextOfBytes program (code_text None) made × (native ≢ made)
 
 module _ (program path native : List ℕ) where
   -- it is another, which is told of its path

@@ -10,7 +10,7 @@ ghost use Rattle.cfarm_program_status.specs.Trace.{shown};
 
 use crate::verifying::verify_bytes;
 use cfarm_files::Files;
-use cfarm_native::native_of;
+use cfarm_native::{Form, native_of};
 use cfarm_output::{ErrorLines, Paced, print_whole};
 use cfarm_program_status::{UNWRITTEN, tell, tell_unread};
 use cfarm_run::ExecError;
@@ -74,7 +74,7 @@ fn is_native(alloc: Global, program: &[u8], native: &[u8]) -> Result<bool, ExecE
     ensures other { IfOk result (λ is. is ≡ false → IsAnother program.now native.now) }
     ensures unmade { IfErr result (λ fault. IsUnmade program.now fault) }
 {
-    match native_of(alloc, program, &Doorways::Main) {
+    match native_of(alloc, program, &Form::Code(Doorways::Main)) {
         Ok(text) => Ok(is_same(native, &text)),
         Err(fault) => Err(fault),
     }

@@ -8,11 +8,11 @@ use Rattle.cfarm_files.specs.declared.fault.FileFault.{FileFault}
 use Rattle.cfarm_files.specs.declared.fault.FileFault.TheVariants.{Refused}
 use Rattle.cfarm_files.specs.declared.files.Files as filing
 use Rattle.cfarm_files.specs.declared.reason.Reason.TheVariants.{Unsaid}
-use Rattle.cfarm_native.specs.Told.{HasWritten, IsTextOfBytes, IsUnmade, Printed}
+use Rattle.cfarm_native.specs.Told.{HasWritten, IsTextOfBytes, IsUnmade, Printed, Texts}
 use Rattle.cfarm_output.specs.Errors.{ErrorsHeld}
 use Rattle.cfarm_output.specs.declared.errors.ErrorLines as lines
 use Rattle.cfarm_own_files.specs.Kept.{IsKept, IsNotKept}
-use Rattle.cfarm_program_native.specs.Chosen.{file_of}
+use Rattle.cfarm_program_native.specs.Chosen.{file_of, text_asked}
 use Rattle.cfarm_program_status.specs.Reading.{Coming, Says, unread}
 use Rattle.cfarm_program_status.specs.Telling.{Answer, IsToldAs, no_memory, quiet, told}
 use Rattle.cfarm_program_status.specs.Trace.{Changed, Trace}
@@ -24,11 +24,11 @@ use Rattle.cfarm_run.specs.declared.exec_error.ExecError.{ExecError}
 abbrev pub native_fault : ExecError → Answer
 native_fault fault = told (exec.status_of fault) (exec_line fault)
 
--- the text of the bytes, with main or under this prefix, is printed, or why not is told
-abbrev pub IsPrinted : Option (List ℕ) → List ℕ → Coming
-IsPrinted prefix bytes answer before after =
-    (HasWritten bytes prefix before after × (answer ≡ quiet))
-    ⊎ ((fault : ExecError) × IsExecFault bytes fault × Printed bytes prefix fault before after × (answer ≡ native_fault fault))
+-- such a text of the bytes is printed, or why not is told
+abbrev pub IsPrinted : Texts → List ℕ → Coming
+IsPrinted text bytes answer before after =
+    (HasWritten bytes text before after × (answer ≡ quiet))
+    ⊎ ((fault : ExecError) × IsExecFault bytes fault × Printed bytes text fault before after × (answer ≡ native_fault fault))
 
 -- Over files as they were found and as they are left.
 module _ {F D L : Type 0} (over : filing.Ghosts F D L) (files : Changed F) where
@@ -60,29 +60,30 @@ module _ {F D L : Type 0} (over : filing.Ghosts F D L) (files : Changed F) where
   MayPut target text answer = HasPut target text answer ⊎ IsUnput target text answer
 
   -- the text of the bytes is put at this path, or refused there
-  abbrev pub PutsText : Option (List ℕ) → (target bytes : List ℕ) → Answer → Type 0
-  PutsText prefix target bytes answer =
-      (text : List ℕ) × IsTextOfBytes bytes prefix text × MayPut target text answer
+  abbrev pub PutsText : Texts → (target bytes : List ℕ) → Answer → Type 0
+  PutsText text target bytes answer =
+      (made : List ℕ) × IsTextOfBytes bytes text made × MayPut target made answer
 
   -- or there is none
-  abbrev pub PutsApart : Option (List ℕ) → (target bytes : List ℕ) → Answer → Type 0
-  PutsApart prefix target bytes answer = (TellsUnmade bytes answer × Keeps) ⊎ PutsText prefix target bytes answer
+  abbrev pub PutsApart : Texts → (target bytes : List ℕ) → Answer → Type 0
+  PutsApart text target bytes answer = (TellsUnmade bytes answer × Keeps) ⊎ PutsText text target bytes answer
 
   -- the file of the first path is read: the other path may not be used, or the text is put there
-  abbrev pub Puts : Option (List ℕ) → (path target bytes : List ℕ) → Answer → Type 0
-  Puts prefix path target bytes answer =
-      (TellsKept path target answer × Keeps) ⊎ (IsNotKept over files.entry.now path target × PutsApart prefix target bytes answer)
+  abbrev pub Puts : Texts → (path target bytes : List ℕ) → Answer → Type 0
+  Puts text path target bytes answer =
+      (TellsKept path target answer × Keeps) ⊎ (IsNotKept over files.entry.now path target × PutsApart text target bytes answer)
 
   -- where the text goes into a file, that is put and nothing printed; else it is printed and nothing put
-  abbrev pub Goes : Option (List ℕ) → Option (List ℕ) → (path bytes : List ℕ) → Coming
-  Goes None prefix path bytes answer before after = Keeps × IsPrinted prefix bytes answer before after
-  Goes (Some target) prefix path bytes answer before after = Puts prefix path target bytes answer × (after ≡ before)
+  abbrev pub Goes : Option (List ℕ) → Texts → (path bytes : List ℕ) → Coming
+  Goes None text path bytes answer before after = Keeps × IsPrinted text bytes answer before after
+  Goes (Some target) text path bytes answer before after = Puts text path target bytes answer × (after ≡ before)
 
   -- `native`, which opens no disk
   abbrev pub Nativing : NativeOptions → (path bytes : List ℕ) → Coming
   Nativing options path bytes answer before after =
       UsesNone (over.used files.entry.now) (over.used files.exit.now)
-      × Goes (file_of (option_copied options.output)) (option_copied options.prefix) path bytes answer before after
+      × Goes (file_of (option_copied options.output)) (text_asked options.written (option_copied options.prefix)) path bytes
+      answer before after
 
 -- a call that prints nothing came to such an answer, which is told
 abbrev pub IsAnswered : {E : Type 0} → (E → ErrorsHeld) → (Answer → Type 0) → ℕ → Changed E → Type 0

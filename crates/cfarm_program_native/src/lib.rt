@@ -4,5 +4,5 @@
 mod choosing;
 mod writing;
 
-pub use choosing::wrong_prefix;
+pub use choosing::{lacks_prefix, wrong_prefix};
 pub use writing::write_native;

@@ -1,10 +1,10 @@
--- Why `text_of` meets its contract.
+-- Why `code_of` meets its contract.
 use Rattle.std.proofs.Common.{List, ℕ, ◌++◌, ap, ◌∙◌}
 use Rattle.lang_base.specs.declared.program.Program.{Program}
 use Rattle.x86_syntax.specs.declared.function.Function.{Function}
 use Rattle.native_text.specs.Doorways.{prefix_in}
 use Rattle.native_text.specs.Whole.{native_text}
-use Rattle.cfarm_native.proofs.writing.text_of.Goals as goal
+use Rattle.cfarm_native.proofs.writing.code_of.Goals as goal
 
 pub returns : goal.returns
 returns c =
