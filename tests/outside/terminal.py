@@ -89,14 +89,15 @@ def rows_of(text, columns):
 
 
 def place_of(text, at):
-    """The line and the column of an offset."""
-    return text.count(b"\n", 0, at) + 1, at - (text.rfind(b"\n", 0, at) + 1) + 1
+    """The line and the column of an offset, in characters of UTF-8: bytes from 128 to 191 begin none."""
+    front = text[text.rfind(b"\n", 0, at) + 1 : at]
+    return text.count(b"\n", 0, at) + 1, 1 + sum(byte >> 6 != 2 for byte in front)
 
 
 def excerpt(text, at):
     """The line of an offset, cut round it, and the mark below."""
-    line, column = place_of(text, at)
-    start = at - column + 1
+    line, start = text.count(b"\n", 0, at) + 1, text.rfind(b"\n", 0, at) + 1
+    column = at - start + 1
     row = text[start:].split(b"\n", 1)[0] if at <= len(text) else b""
     first = 0 if len(row) <= MOST else min(max(column - 1 - MOST // 2, 0), len(row) - MOST)
     shown = "".join(chr(it) if it == 9 or 32 <= it < 127 else "." for it in row[first : first + MOST])
@@ -214,6 +215,8 @@ class Cases:
             if said is None and marked is None:
                 said = "the text ends: is `}` missing?"
             sentence = told.split(": error: ", 1)[1].rsplit(" [", 1)[0]
+            if said:
+                self.expect(screen, f"{title}, gcc", [sentence[-len(said) - 2 :]], [f": {said}"])
             self.expect(screen, title, found, f"{line}{place}{said or sentence}\n{excerpt(text, at)}")
 
     def loops(self, screen):

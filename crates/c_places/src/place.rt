@@ -1,9 +1,9 @@
 //! Where a byte stands in a text.
 
 ghost use Rattle.std.specs.Prelude.{◌≡◌, ◌≤◌, ◌<◌, ◌+◌, ◌^◌, take};
-ghost use Rattle.c_places.specs.Places.{after, place_of};
+ghost use Rattle.c_places.specs.Places.{after, goes_on, place_of, with_byte};
 
-/// Where a byte stands in a text: both count from 1, the column in bytes.
+/// Where a byte stands in a text: both count from 1, the column in characters of UTF-8.
 #[derive(Clone, Copy, Debug, PartialEq, Eq)]
 pub struct Place {
     pub line: usize,
@@ -15,6 +15,22 @@ fn front_of(text: &[u8], at: usize) -> &[u8]
     ensures { result.now ≡ take at text.now }
 {
     if at < text.len() { &text[..at] } else { text }
+}
+
+/// Whether the byte goes on with a character of UTF-8 that began before it.
+fn goes_on(byte: u8) -> bool
+    ensures { result ≡ goes_on byte }
+{
+    if byte < 128 { false } else { byte < 192 }
+}
+
+/// The column behind a byte that ends no line.
+fn with_byte(byte: u8, column: usize) -> usize
+    requires small { column < 2 ^ 63 }
+    ensures column { result ≡ with_byte byte column }
+    ensures near { result ≤ column + 1 }
+{
+    if goes_on(byte) { column } else { column + 1 }
 }
 
 /// The place behind a byte.
@@ -31,7 +47,7 @@ fn behind(place: Place, byte: u8) -> Place
     } else {
         Place {
             line: place.line,
-            column: place.column + 1,
+            column: with_byte(byte, place.column),
         }
     }
 }

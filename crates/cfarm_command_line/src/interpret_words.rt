@@ -24,7 +24,7 @@ fn depth<'a>(alloc: Global, bounds: Bounds, choices: Choices<'a>) -> Arg<'a>
         Bounds::Counted => Arg::new(alloc, DEPTH)
             .long(DEPTH)
             .value_name("N")
-            .help("How many turns and calls may nest, from 0 to 4294967295, or `none`")
+            .help("How many turns and calls may nest, 0 to 4294967295, or `none`")
             .value_parser(ValueParser::Unsigned(0, GREATEST_DEPTH))
             .default_value("100000"),
         Bounds::Unbounded => unbounded(alloc, DEPTH, choices),

@@ -36,7 +36,7 @@ fn form<'a>(alloc: Global, choices: Choices<'a>) -> Arg<'a>
     Arg::new(alloc, FORMAT)
         .long(FORMAT)
         .value_name("FORMAT")
-        .help("How a refusal is told: as compilers tell editors")
+        .help("How a refusal is told: for editors or as JSON")
         .value_parser(ValueParser::Names(choices.formats))
 }
 
@@ -59,7 +59,7 @@ fn limit<'a>(alloc: Global, bounds: Bounds, choices: Choices<'a>) -> Arg<'a>
         Bounds::Counted => Arg::new(alloc, LIMIT)
             .long(LIMIT)
             .value_name("N")
-            .help("How many instructions may run, from 0 to 9223372036854775807, or `none`")
+            .help("How many instructions, 0 to 9223372036854775807, or `none`")
             .value_parser(ValueParser::Unsigned(0, GREATEST_LIMIT))
             .default_value("1000000"),
         Bounds::Unbounded => unbounded(alloc, LIMIT, choices),
@@ -109,6 +109,7 @@ fn format_named(words: &ArgMatches<'_>) -> Option<Format>
     match words.get_str(FORMAT) {
         None => Some(Format::Plain),
         Some("gcc") => Some(Format::Gcc),
+        Some("json") => Some(Format::Json),
         Some(_) => None,
     }
 }

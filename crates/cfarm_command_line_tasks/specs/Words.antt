@@ -1,8 +1,9 @@
 -- What the words of a command line ask for. How words are read is defined in `clap`: here stand the commands, and what is
 -- asked for by what is found.
-use Rattle.std.specs.Prelude.{◌≡◌, ◌≢◌, ◌<◌, ◌^◌, ℕ, ℤ, pos, negsuc, FitsSigned, List, [], ◌∷◌, Option, Some, None, Result, IfOk, map, option_map, true, false, codes}
+use Rattle.std.specs.Prelude.{◌≡◌, ◌≢◌, ◌<◌, ◌^◌, ℕ, ℤ, pos, negsuc, FitsSigned, List, [], ◌∷◌, Option, Some, None, Result, IfOk, map, option_map, true, false, codes, if◌then◌else◌}
 use Rattle.std.specs.Int.{w32}
 use Rattle.std.specs.Borrow.{Bor}
+use Rattle.std.specs.Str.{bytes_eq}
 use Rattle.std.specs.Str.Parse.{IsNumeral, digits_value, signed_digits_value, without_leading_plus, without_leading_sign}
 use Rattle.clap.specs.Words.{App, HasKind, Row, Rule, Text, app_of, fault_of, first_of, kind_of, new_app, new_rule, rule_of, subcommand_of, takes, with_rule, with_subcommand}
 use Rattle.clap.specs.declared.builder.action.ArgAction.TheVariants.{SetTrue}
@@ -29,7 +30,7 @@ use Rattle.cfarm_command_line_tasks.specs.declared.task.Asked.{Asked}
 use Rattle.cfarm_command_line_tasks.specs.declared.task.Explaining.{Explaining}
 use Rattle.cfarm_command_line_tasks.specs.declared.task.Explaining.TheVariants.{Seen, Always}
 use Rattle.cfarm_command_line_tasks.specs.declared.task.Format.{Format}
-use Rattle.cfarm_command_line_tasks.specs.declared.task.Format.TheVariants.{Plain, Gcc}
+use Rattle.cfarm_command_line_tasks.specs.declared.task.Format.TheVariants.{Plain, Gcc, Json}
 use Rattle.cfarm_command_line_tasks.specs.declared.task.Showing.{Showing}
 use Rattle.cfarm_command_line_tasks.specs.declared.task.Showing.TheVariants.{Lines, Drawing}
 use Rattle.cfarm_command_line_tasks.specs.declared.task.Task.{Task}
@@ -39,6 +40,8 @@ use Rattle.cfarm_command_line_tasks.specs.declared.task.FsckOptions.{FsckOptions
 use Rattle.cfarm_command_line_tasks.specs.declared.task.NativeOptions.{NativeOptions}
 use Rattle.cfarm_command_line_tasks.specs.declared.task.OfferAt.{OfferAt}
 use Rattle.cfarm_command_line_tasks.specs.declared.task.VerifyPaths.{VerifyPaths}
+use Rattle.cfarm_command_line_tasks.specs.declared.task.Written.{Written}
+use Rattle.cfarm_command_line_tasks.specs.declared.task.Written.TheVariants.{Assembly, Header}
 
 -- ---- the commands
 
@@ -62,12 +65,12 @@ expect_rule = record (new_rule (codes "expect")) { long = Some (codes "expect");
 abbrev pub AreNames : Bor (List (Bor Text)) → List Text → Type 0
 AreNames names texts = map (λ name. name.now) names.now ≡ texts
 
--- the numbers of nodes are those that a farm can have, optimisers choose in two ways, there is one form of a refusal beside the plain one,
+-- the numbers of nodes are those that a farm can have, optimisers choose in two ways, there are two forms of a refusal beside the plain one,
 -- a program is written in five forms, and one word asks for a run without a bound
 abbrev pub AreChoices : Choices → Type 0
 AreChoices choices = AreNames choices.nodes (codes "2" ∷ codes "3" ∷ codes "4" ∷ codes "5" ∷ codes "6" ∷ codes "7" ∷ [])
     × AreNames choices.optimise (codes "drawn" ∷ codes "speed" ∷ [])
-    × AreNames choices.formats (codes "gcc" ∷ [])
+    × AreNames choices.formats (codes "gcc" ∷ codes "json" ∷ [])
     × AreNames choices.forms (codes "cminor" ∷ codes "rtl" ∷ codes "ltl" ∷ codes "linear" ∷ codes "bundle" ∷ [])
     × AreNames choices.unbounded (codes "none" ∷ [])
 
@@ -206,8 +209,11 @@ output_rule = record (new_rule (codes "output")) { short = Some 111; value_names
 abbrev pub export_rule : Rule
 export_rule = path_rule (codes "export")
 
+abbrev pub header_rule : Rule
+header_rule = word_rule (codes "header")
+
 abbrev pub native_app : App
-native_app = with_rule (with_rule (with_rule (new_app (codes "native")) file_rule) output_rule) export_rule
+native_app = with_rule (with_rule (with_rule (with_rule (new_app (codes "native")) file_rule) output_rule) export_rule) header_rule
 
 abbrev pub fsck_app : Choices → App
 fsck_app choices = with_rule (with_rule (with_rule (with_rule (with_rule (new_app (codes "fsck")) file_rule) (nodes_rule choices)) promise_rule) accept_rule)
@@ -296,6 +302,7 @@ ReadsSigned (Some text) number = IsNumeral 10 (without_leading_sign text) → Fi
 abbrev pub format_word : Format → Option Text
 format_word Plain = None
 format_word Gcc = Some (codes "gcc")
+format_word Json = Some (codes "json")
 
 -- what was found is the word for none
 abbrev pub IsNoFormat : Option Text → Type 0
@@ -324,6 +331,11 @@ explaining_word Always = codes "true"
 abbrev pub showing_word : Showing → Text
 showing_word Lines = codes "false"
 showing_word Drawing = codes "true"
+
+-- what the word says is written of native code: the header where that is asked for
+abbrev pub written_by : Option Text → Written
+written_by None = Assembly
+written_by (Some word) = if bytes_eq word (codes "true") then Header else Assembly
 
 -- the sizes that these words say
 abbrev pub sizes_among : Nodes → (promise accept : Option ℕ) → AskedSizes
@@ -370,6 +382,7 @@ pub record IsOfferAt (rows : List Row) (offer : OfferAt) : Type 0 where
 
 -- what is found of how native code is written
 pub record AreNativeOptions (rows : List Row) (options : NativeOptions) : Type 0 where
+  pub written : options.written ≡ written_by (first_of (codes "header") rows)
   pub output : IsPath rows (codes "output") options.output
   pub prefix : IsPath rows (codes "export") options.prefix
 

@@ -33,7 +33,7 @@ pub fn offered<'a>() -> Choices<'a>
     Choices {
         nodes: &["2", "3", "4", "5", "6", "7"],
         optimise: &["drawn", "speed"],
-        formats: &["gcc"],
+        formats: &["gcc", "json"],
         forms: &["cminor", "rtl", "ltl", "linear", "bundle"],
         unbounded: &["none"],
     }

@@ -8,4 +8,5 @@ mod task;
 pub use choices::{Bounds, Choices, offered};
 pub use task::{
     Asked, Explaining, Format, FsckOptions, NativeOptions, OfferAt, Showing, Task, VerifyPaths,
+    Written,
 };

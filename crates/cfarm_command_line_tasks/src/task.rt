@@ -7,8 +7,10 @@ use cfarm_options::{AskedSizes, BuildOptions, Emitted};
 pub enum Format {
     /// By number, name and byte offset.
     Plain,
-    /// By file, line, column and sentence, as compilers tell editors.
+    /// By file, line, column, sentence and hint, as compilers tell editors.
     Gcc,
+    /// As one object of JSON.
+    Json,
 }
 
 /// How a schedule that was played is shown.
@@ -58,9 +60,19 @@ pub struct FsckOptions<'a> {
     pub folder: &'a str,
 }
 
+/// What is written of native code.
+#[derive(Clone, Copy)]
+pub enum Written {
+    /// Its assembly text.
+    Assembly,
+    /// A header of C for the functions that it exports.
+    Header,
+}
+
 /// How the native code of a linked program is written.
 #[derive(Clone, Copy)]
 pub struct NativeOptions<'a> {
+    pub written: Written,
     /// The file that it is put in, where one is said; `-` is the output.
     pub output: Option<&'a str>,
     /// The prefix under which C calls its functions, where they are exported.

@@ -1,7 +1,6 @@
 //! A line of a text, with a mark below.
 
-use crate::words::bytes_between;
-use cfarm_run::Place;
+use c_hints_words::bytes_between;
 use std::alloc::{AllocError, Global};
 
 /// How many bytes of a line are shown.
@@ -24,9 +23,17 @@ fn below(byte: u8) -> char {
     if byte == b'\t' { '\t' } else { ' ' }
 }
 
-/// From where to before where the line of a text goes that has this offset, in this column.
-fn row_of(text: &[u8], at: usize, column: usize) -> &[u8] {
-    let start = at.saturating_sub(column.saturating_sub(1));
+/// How many bytes stand between an offset of a text and the last line feed in front of it.
+fn bytes_in_front(text: &[u8], at: usize) -> usize {
+    let front = bytes_between(text, 0, at);
+    match front.iter().rposition(|byte| *byte == b'\n') {
+        Some(end) => front.len().saturating_sub(end).saturating_sub(1),
+        None => front.len(),
+    }
+}
+
+/// The line of a text that begins at this offset.
+fn row_from(text: &[u8], start: usize) -> &[u8] {
     let rest = bytes_between(text, start, text.len());
     match rest.iter().position(|byte| *byte == b'\n') {
         Some(length) => bytes_between(rest, 0, length),
@@ -63,18 +70,18 @@ fn write_mark(out: &mut String, margin: usize, front: &[u8]) -> Result<(), Alloc
     out.push_str("^\n")
 }
 
-/// Writes the line of this place behind its number, and a mark below the byte, each with an end of line.
+/// Writes the line that has this offset behind its number, and a mark below the byte, each with an end of line.
 pub(crate) fn write_excerpt(
     out: &mut String,
     alloc: Global,
     text: &[u8],
     at: usize,
-    place: Place,
+    line: usize,
 ) -> Result<(), AllocError> {
-    let row = row_of(text, at, place.column);
-    let marked = place.column.saturating_sub(1);
+    let marked = bytes_in_front(text, at);
+    let row = row_from(text, at.saturating_sub(marked));
     let start = first_shown(row.len(), marked);
-    let number = format!(in alloc; "{} | ", place.line)?;
+    let number = format!(in alloc; "{line} | ")?;
     out.push_str(number.as_str())?;
     write_row(out, bytes_between(row, start, start.saturating_add(MOST)))?;
     write_mark(

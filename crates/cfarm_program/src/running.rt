@@ -5,14 +5,13 @@ ghost use Rattle.cfarm_program_status.specs.Trace.{trace};
 ghost use Rattle.cfarm_program.specs.Met.{AreMet, IsUnmet};
 ghost use Rattle.cfarm_program.specs.Performed.{Reads, RunsTask};
 
-use crate::mistake::Mistake;
+use crate::mistake::{Mistake, unwritten};
 use crate::performing::perform;
 use cfarm_build::{Farm, Host};
 use cfarm_command_line_tasks::Task;
 use cfarm_files::Files;
 use cfarm_options::Meter;
 use cfarm_output::{ErrorLines, Paced};
-use cfarm_program_native::wrong_prefix;
 use cfarm_program_status::{tell, tell_unread};
 use rooms_hall::Naming;
 use std::io::Write;
@@ -22,7 +21,7 @@ use std::thread::Threads;
 /// The status for what is wrong with a task.
 const UNMET: u8 = 2;
 
-/// What is wrong with a task before its file is read: its quorums need not meet, or its prefix is no C name.
+/// What is wrong with a task before its file is read: its quorums need not meet, its prefix is no C name, or it lacks one.
 fn unmet<'a>(task: Task<'a>) -> Option<Mistake<'a>>
     ensures some { IfSome result (IsUnmet task.entry) }
     ensures none { IsNone result → AreMet task.entry }
@@ -36,10 +35,7 @@ fn unmet<'a>(task: Task<'a>) -> Option<Mistake<'a>>
             Some(_quorums) => None,
             None => Some(Mistake::Quorums(options.sizes)),
         },
-        Task::Native(options) => match wrong_prefix(options.prefix) {
-            Some(prefix) => Some(Mistake::Prefix(prefix)),
-            None => None,
-        },
+        Task::Native(options) => unwritten(options.written, options.prefix),
         _ => None,
     }
 }

@@ -16,12 +16,34 @@ pub trait Wording {
         ensures { IfOk result (λ text. may_show self.now answer.now (string_bytes text)) };
 }
 
-/// The words of `clap` itself, of which nothing is known.
+/// What `clap` says of the option by which compilers are told where to put what they make: that it is unknown,
+const UNKNOWN: &str = "error: unexpected argument '-o' found\n";
+
+/// and, where a file may still be named, how to name it so.
+const TIP: &str = "  tip: to pass '-o' as a value, use '-- -o'";
+
+/// What is said in place of that.
+const FOLDER: &str =
+    "  tip: `build` puts what it makes into the folder of `--dir`, and `emit` writes to standard output";
+
+/// The words of `clap` itself, of which nothing is known, but for `-o`.
 #[derive(Clone, Copy, Debug)]
 pub struct OwnWords;
 
+/// The text with what helps at `-o`.
+fn with_folder(alloc: Global, text: &str) -> Result<String, AllocError> {
+    if let Some((front, behind)) = text.split_once(TIP) {
+        return format!(in alloc; "{front}{FOLDER}{behind}");
+    }
+    match text.strip_prefix(UNKNOWN) {
+        Some(behind) => format!(in alloc; "{UNKNOWN}\n{FOLDER}\n{behind}"),
+        None => text.to_string(alloc),
+    }
+}
+
 impl Wording for OwnWords {
     fn text_of(&self, alloc: Global, answer: &clap::Error) -> Result<String, AllocError> {
-        format!(in alloc; "{answer}")
+        let text = format!(in alloc; "{answer}")?;
+        with_folder(alloc, text.as_str())
     }
 }

@@ -2,7 +2,7 @@
 use Rattle.std.specs.Prelude.{Bool, false, true}
 use Rattle.cfarm_command_line_tasks.specs.declared.task.Explaining.{Explaining}
 use Rattle.cfarm_command_line_tasks.specs.declared.task.Explaining.TheVariants.{Seen, Always}
-use Rattle.cfarm_command_line_tasks.specs.declared.task.Format.TheVariants.{Plain, Gcc}
+use Rattle.cfarm_command_line_tasks.specs.declared.task.Format.TheVariants.{Plain, Gcc, Json}
 use Rattle.cfarm_command_line_tasks.specs.declared.task.Task.{Task}
 use Rattle.cfarm_command_line_tasks.specs.declared.task.Task.TheVariants.{Check, Interpret, Build, Exec, Settle, Simulate, Show, List, Verify, Emit, Judge, Native, Fsck}
 
@@ -11,11 +11,12 @@ abbrev pub is_asked : Bool → Explaining → Bool
 is_asked is_seen Seen = is_seen
 is_asked is_seen Always = true
 
--- whether the answer of a task is explained: to a user, but not where a refusal is told as compilers tell editors, and of a run where
+-- whether the answer of a task is explained: to a user, but not where a refusal is told in a form for programs, and of a run where
 -- that is asked for
 abbrev pub is_explained : Bool → Task → Bool
 is_explained is_seen (Check Plain) = is_seen
 is_explained is_seen (Check Gcc) = false
+is_explained is_seen (Check Json) = false
 is_explained is_seen (Interpret depth explaining) = is_asked is_seen explaining
 is_explained is_seen (Build options) = is_seen
 is_explained is_seen (Exec limit expected explaining) = is_asked is_seen explaining

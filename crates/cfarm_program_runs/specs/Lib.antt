@@ -1,3 +1,5 @@
 pub mod Explained
+pub mod Objects
 pub mod Outcomes
+pub mod Refusals
 pub mod Saying

@@ -3,6 +3,7 @@ use Rattle.std.specs.Prelude.{◌≡◌, ◌⊎◌, ℕ, Bool, true, false, List
 use Rattle.cfarm_run.specs.declared.command_error.CommandError.{CommandError}
 use Rattle.cfarm_command_line_tasks.specs.declared.task.Explaining.{Explaining}
 use Rattle.cfarm_command_line_tasks.specs.declared.task.Format.{Format}
+use Rattle.cfarm_command_line_tasks.specs.declared.task.Format.TheVariants.{Gcc, Json}
 use Rattle.cfarm_command_line_tasks.specs.declared.task.Task.TheVariants.{Check, Interpret}
 use Rattle.cfarm_explain.specs.Bounds.{depth_text, limit_text}
 use Rattle.cfarm_explain.specs.Explained as run
@@ -11,12 +12,20 @@ use Rattle.cfarm_program_status.specs.Reading.{Coming}
 use Rattle.cfarm_program_status.specs.Telling.{Answer, IsExplained}
 use Rattle.cfarm_program_status.specs.Trace.{Shown}
 use Rattle.cfarm_program_runs.specs.Explained.{is_asked, is_explained}
-use Rattle.cfarm_program_runs.specs.Outcomes.{Checked, Interpreted, checked_fault}
+use Rattle.cfarm_program_runs.specs.Outcomes.{Checked, Interpreted, IsCheckedFault}
 
 -- a fault of the text of the file of this path is told in the form that is asked for, and explained where a user sees it in that form
 abbrev pub IsFaultTold : Bool → Format → (path bytes : List ℕ) → CommandError → ℕ → ErrorsHeld → ErrorsHeld → Type 0
 IsFaultTold is_seen format path bytes fault status before after =
-    IsExplained (is_explained is_seen (Check format)) (checked_fault format path bytes fault) status before after
+    (answer : Answer) × IsCheckedFault format path bytes fault answer × IsExplained (is_explained is_seen (Check format)) answer status before after
+
+-- the same in the form of compilers, which is explained to nobody
+abbrev pub IsPlacedTold : (path bytes : List ℕ) → CommandError → ℕ → ErrorsHeld → ErrorsHeld → Type 0
+IsPlacedTold path bytes fault = IsFaultTold false Gcc path bytes fault
+
+-- the same as an object of JSON
+abbrev pub IsObjectTold : (path bytes : List ℕ) → CommandError → ℕ → ErrorsHeld → ErrorsHeld → Type 0
+IsObjectTold path bytes fault = IsFaultTold false Json path bytes fault
 
 module _ {W E : Type 0} (contents : W → Option (List ℕ)) (errors : E → ErrorsHeld) (is_seen : Bool) where
   -- it came to this, which is told, and explained where a user sees it

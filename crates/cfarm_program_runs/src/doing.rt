@@ -4,19 +4,21 @@ ghost use Rattle.std.specs.Prelude.{◌≡◌, ◌⊎◌, ◌≤◌, [], IsOkAnd
 ghost use Rattle.cfarm_program_status.specs.Reading.{Says};
 ghost use Rattle.cfarm_program_status.specs.Trace.{shown};
 ghost use Rattle.cfarm_program_status.specs.Telling.{IsExplained};
-ghost use Rattle.cfarm_program_runs.specs.Outcomes.{Executed, Settled, text_fault};
-ghost use Rattle.cfarm_program_runs.specs.Saying.{CausesOf, Checks, Executes, Interprets, IsBehindStopped, IsBehindWrong, IsFaultTold};
+ghost use Rattle.cfarm_program_runs.specs.Outcomes.{Executed, Settled, placed_fault, text_fault};
+ghost use Rattle.cfarm_program_runs.specs.Saying.{CausesOf, Checks, Executes, Interprets, IsBehindStopped, IsBehindWrong, IsFaultTold, IsObjectTold, IsPlacedTold};
 ghost use Rattle.cfarm_program_runs.specs.Saying.{StoppedAtDepth, StoppedAtLimit};
 ghost use Rattle.cfarm_program_runs.specs.Explained.{is_asked};
 ghost use Rattle.cfarm_explain.specs.Bounds.{depth_text, limit_text};
 
+use crate::objects::{Refusal, tell_refusal};
 use cfarm_command_line_tasks::{Explaining, Format};
 use cfarm_explain::{explain, stopped_at_depth, stopped_at_limit};
-use cfarm_hints::{is_amid, of_text};
+use cfarm_hints::{declared_of, hint_of, hint_where, is_amid, of_text};
 use cfarm_output::{ErrorLines, Paced};
 use cfarm_program_status::{tell, tell_among};
 use cfarm_run::{
-    Closing, CommandError, PlacedError, check_text, exec, interpret, status_of, status_where,
+    Closing, CommandError, PlacedError, TextError, check_text, exec, interpret, status_of,
+    status_where,
 };
 use cfarm_settle::settle;
 use lang_base::{NoMemory, Shown};
@@ -43,6 +45,70 @@ fn tell_fault<E: ErrorLines>(
     tell_among(err, false, fault, fault.status(), behind.as_str())
 }
 
+/// Tells it as compilers tell editors.
+#[tactic(auto, using(crate::proofs::Tables::error_in_table))]
+fn tell_placed<E: ErrorLines>(
+    alloc: Global,
+    path: &str,
+    text: &[u8],
+    fault: CommandError,
+    err: &mut E,
+) -> u8
+    ensures told { IsPlacedTold path.now text.now fault result (E.contents err.old) (E.contents err.new) }
+    ensures table { result ≤ 7 }
+{
+    let said = hint_of(alloc, text, fault);
+    let line = PlacedError {
+        path,
+        text,
+        fault,
+        hint: said.as_str(),
+    };
+    tell_among(err, false, line, fault.status(), "")
+}
+
+/// The fault of a text and the offset that it is about, where there is one.
+fn placed(fault: CommandError) -> Option<(TextError, usize)>
+    ensures { result ≡ placed_fault fault }
+{
+    match fault {
+        CommandError::Text(refused) => match refused.offset() {
+            Some(at) => Some((refused, at)),
+            None => None,
+        },
+        CommandError::Run(_) => None,
+    }
+}
+
+/// Tells it as an object of JSON, or that there is no memory to make one; what has no place as it is ever told.
+#[tactic(auto, using(crate::proofs::Tables::error_in_table))]
+fn tell_object<E: ErrorLines>(
+    alloc: Global,
+    path: &str,
+    text: &[u8],
+    fault: CommandError,
+    err: &mut E,
+) -> u8
+    ensures told { IsObjectTold path.now text.now fault result (E.contents err.old) (E.contents err.new) }
+    ensures table { result ≤ 7 }
+{
+    match placed(fault) {
+        Some((refused, at)) => {
+            let said = hint_where(alloc, text, refused.number(), at);
+            let refusal = Refusal {
+                path,
+                text,
+                fault: refused,
+                at,
+                hint: said.as_str(),
+                declared: declared_of(text, refused, at),
+            };
+            tell_refusal(alloc, refusal, fault.status(), err)
+        }
+        None => tell_among(err, false, fault, fault.status(), ""),
+    }
+}
+
 /// Tells it in the form that is asked for.
 #[tactic(auto, using(crate::proofs::Tables::error_in_table))]
 fn tell_checked<E: ErrorLines>(
@@ -59,13 +125,8 @@ fn tell_checked<E: ErrorLines>(
 {
     match format {
         Format::Plain => tell_fault(alloc, is_seen, path, text, fault, err),
-        Format::Gcc => tell_among(
-            err,
-            false,
-            PlacedError { path, text, fault },
-            fault.status(),
-            "",
-        ),
+        Format::Gcc => tell_placed(alloc, path, text, fault, err),
+        Format::Json => tell_object(alloc, path, text, fault, err),
     }
 }
 

@@ -3,6 +3,7 @@
 #![tactic(auto)]
 
 mod doing;
+mod objects;
 mod simulating;
 
 pub use doing::{check, lay_out, run_bytes, run_text};

@@ -1,4 +1,4 @@
-pub mod Places
+pub mod PlacedLines
 pub mod Closings
 pub mod Counts
 pub mod ExecLines

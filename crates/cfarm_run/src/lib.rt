@@ -2,7 +2,7 @@
 //! C text declares, `interpret` runs its program as the C standard means it, and `exec` runs a linked program.
 //!
 //! Beside the fixed line of a refused text there is its place, by line and column; a sentence (`sentence_of`); and the line that compilers tell
-//! editors (`PlacedError`).
+//! editors (`PlacedError`), with a hint where one is given.
 #![tactic(auto)]
 
 mod checking;
@@ -11,8 +11,8 @@ mod command_error;
 mod exec_error;
 mod executing;
 mod interpreting;
-mod place;
 mod placed_error;
+mod placed_line;
 mod reading;
 mod sentences;
 
@@ -24,6 +24,6 @@ pub use exec_error::ExecError;
 pub use executing::exec;
 pub use interpreting::interpret;
 pub use linear::run;
-pub use place::{Place, PlacedLine, place_of};
 pub use placed_error::PlacedError;
+pub use placed_line::PlacedLine;
 pub use sentences::sentence_of;

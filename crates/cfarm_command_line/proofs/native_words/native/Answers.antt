@@ -3,7 +3,7 @@ use Rattle.std.specs.Prelude.{codes}
 use Rattle.std.proofs.Common.{ap, ◌∙◌}
 use Rattle.clap.specs.Words.{new_app}
 use Rattle.clap.specs.Simple.{app_of_fields}
-use Rattle.cfarm_command_line_tasks.specs.Words.{export_rule, file_rule, output_rule}
+use Rattle.cfarm_command_line_tasks.specs.Words.{export_rule, file_rule, header_rule, output_rule}
 use Rattle.cfarm_command_line.proofs.native_words.native.Goals as goal
 
 pub returns : goal.returns
@@ -14,4 +14,5 @@ returns c =
     )
     c.file.ensures in
     let placed = c.with_argument-placed.ensures _ output_rule named c.output.ensures in
-    c.with_argument.ensures _ export_rule placed c.export.ensures
+    let exported = c.with_argument-exported.ensures _ export_rule placed c.export.ensures in
+    c.with_argument.ensures _ header_rule exported c.header.ensures

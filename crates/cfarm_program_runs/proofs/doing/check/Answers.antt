@@ -1,6 +1,5 @@
 -- Why `check` meets its clause `does`.
 use Rattle.std.proofs.Common.{refl, inl, inr}
-use Rattle.cfarm_program_runs.specs.Outcomes.{checked_fault}
 use Rattle.cfarm_program_status.specs.Telling.{quiet}
 use Rattle.cfarm_program_runs.proofs.doing.check.Goals as goal
 
@@ -10,4 +9,5 @@ returns-in-Ok-clause-does g c = (quiet, inl (c.in-Ok.ensures.accepted, refl), (r
 pub returns-in-Err-clause-does : goal.returns-in-Err-clause-does
 returns-in-Err-clause-does g c =
     let fault = c.in-Err.fault in
-    (checked_fault c.args.format c.args.path.now c.args.text.now fault, inr (fault, c.in-Err.ensures.refused, c.in-Err.ensures.printed, refl), c.tell_checked.ensures.told)
+    let (answer, is, told) = c.tell_checked.ensures.told in
+    (answer, inr (fault, c.in-Err.ensures.refused, c.in-Err.ensures.printed, is), told)
