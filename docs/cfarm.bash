@@ -12,7 +12,7 @@ _cfarm_options() {
     verify) echo "--program --bundle --native --help" ;;
     emit) echo "--of --seed --help" ;;
     judge) echo "--function --offer --help" ;;
-    native) echo "-o --export --help" ;;
+    native) echo "-o --export --header --help" ;;
     settle | show | log) echo "--help" ;;
     *) echo "--help --version" ;;
     esac
@@ -21,7 +21,7 @@ _cfarm_options() {
 # The words of an option that takes one of some; nothing where it takes a number, which is typed.
 _cfarm_values() {
     case $1 in
-    --format) echo "gcc" ;;
+    --format) echo "gcc json" ;;
     --nodes) echo "2 3 4 5 6 7" ;;
     --optimise) echo "drawn speed" ;;
     --of) echo "cminor rtl ltl linear bundle" ;;

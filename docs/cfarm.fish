@@ -15,7 +15,7 @@ for line in 'check:check a C text' 'interpret:run a C text' 'build:compile a C t
     complete -c cfarm -n __cfarm_lacks_command -a $parts[1] -d $parts[2]
 end
 
-complete -c cfarm -n '__fish_seen_subcommand_from check' -l format -x -a gcc -d 'faults as gcc tells them'
+complete -c cfarm -n '__fish_seen_subcommand_from check' -l format -x -a 'gcc json' -d 'how a fault is told'
 complete -c cfarm -n '__fish_seen_subcommand_from interpret' -l depth -x -a none -d 'calls that may be under way, or none'
 complete -c cfarm -n '__fish_seen_subcommand_from interpret' -l explain -d 'why it went wrong'
 complete -c cfarm -n '__fish_seen_subcommand_from build fsck' -l nodes -x -a '2 3 4 5 6 7' -d 'nodes of the farm'
@@ -39,4 +39,5 @@ complete -c cfarm -n '__fish_seen_subcommand_from judge' -l function -x -d 'name
 complete -c cfarm -n '__fish_seen_subcommand_from judge' -l offer -r -d 'file of the offer'
 complete -c cfarm -n '__fish_seen_subcommand_from native' -s o -r -d 'file of the text'
 complete -c cfarm -n '__fish_seen_subcommand_from native' -l export -x -d 'prefix of exported functions'
+complete -c cfarm -n '__fish_seen_subcommand_from native' -l header -d 'write their header'
 complete -c cfarm -n '__fish_seen_subcommand_from help' -f -a 'check interpret build exec settle sim show log fsck verify emit judge native statuses'

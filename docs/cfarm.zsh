@@ -20,7 +20,7 @@ _cfarm() {
     shift words
     ((CURRENT--))
     case $command in
-    check) _arguments '--format[faults as gcc tells them]:form:(gcc)' '--help' '*:C text:_files' ;;
+    check) _arguments '--format[how a fault is told]:form:(gcc json)' '--help' '*:C text:_files' ;;
     interpret) _arguments '--depth[calls that may be under way, or none]:calls' '--explain[why it went wrong]' '--help' '*:C text:_files' ;;
     build) _arguments $farm '--turns[turns of each node]:turns' '--seed[seed of the draws]:seed' \
         '--optimise[what optimisers choose by]:way:(drawn speed)' '--bundle[file of the bundle]:file:_files' \
@@ -32,7 +32,7 @@ _cfarm() {
         '--native[file of native code]:file:_files' '--help' '*:C text:_files' ;;
     emit) _arguments '--of[which form]:form:(cminor rtl ltl linear bundle)' '--seed[seed of the draws]:seed' '--help' '*:C text:_files' ;;
     judge) _arguments '--function[name of the function]:name' '--offer[file of the offer]:file:_files' '--help' '*:C text:_files' ;;
-    native) _arguments '-o[file of the text]:file:_files' '--export[prefix of exported functions]:prefix' '--help' '*:program:_files' ;;
+    native) _arguments '-o[file of the text]:file:_files' '--export[prefix of exported functions]:prefix' '--header[write their header]' '--help' '*:program:_files' ;;
     help) _values 'about' check interpret build exec settle sim show log fsck verify emit judge native statuses ;;
     *) _arguments '--help' '*:file:_files' ;;
     esac
