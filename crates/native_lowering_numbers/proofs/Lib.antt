@@ -2,3 +2,4 @@ pub mod Wrapped
 pub mod Asked
 pub mod Shifts
 pub mod Quotients
+pub mod Halving

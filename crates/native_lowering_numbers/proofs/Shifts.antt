@@ -1,13 +1,17 @@
 -- Shifts: a count below 32 has an answer, which is the instruction's, and no other has one.
-use Rattle.std.proofs.Common.{◌≡◌, ℕ, ◌/◌, ◌^◌, ◌<◌, Bool, true, false, [], ◌∷◌, Option, Some, None, refl, sym, ap, pos}
+use Rattle.std.proofs.Common.{◌≡◌, ℕ, ◌/◌, ◌^◌, ◌<◌, Bool, true, false, [], ◌∷◌, Option, Some, None, refl, sym, ap, ◌∙◌, pos, ◌*ℤ◌}
 use Rattle.std.specs.Prelude.{nat_le, if◌then◌else◌}
 use Rattle.std.proofs.lemmas.Bool.{false≢true, lt-leb}
+use Rattle.std.proofs.lemmas.Nat.{pow_below}
 use Rattle.ints.specs.MachineTable.{machine_table}
+use Rattle.ints.specs.Words.{wrapped}
 use Rattle.ints.specs.declared.operators.Op.TheVariants as op
 use Rattle.ints.proofs.Wrapping.{wrapped-mul_left}
 use Rattle.x86_syntax.specs.declared.condition.Condition.TheVariants.{AboveOrEqual}
+use Rattle.x86_syntax.specs.declared.operators.Operator.TheVariants.{Mul}
 use Rattle.x86_syntax.specs.declared.operators.Shifting.TheVariants.{Shl, Shr, Sar}
-use Rattle.x86_state.specs.Tables.{shifted, condition_table}
+use Rattle.x86_state.specs.Tables.{operated, shifted, condition_table}
+use Rattle.native_lowering_numbers.proofs.Wrapped.{mul_unsigned}
 
 -- the test before a shift
 pub count_asks : (x y : ℕ) → condition_table AboveOrEqual x y ≡ nat_le y x
@@ -71,3 +75,9 @@ module _ (x y : ℕ) (many : nat_le 32 y ≡ true) where
 pub shifted_out : (x k : ℕ) → k < 32 → shifted Shr x k ≡ Some (x / 2 ^ k)
 unfolding machine_table
 shifted_out x k few = ap (λ b. if b then None else Some (x / 2 ^ k)) (lt-leb 32 k few)
+
+-- a left one is a product
+pub shifted_in : (x k : ℕ) → x < 2 ^ 32 → k < 32 → shifted Shl x k ≡ Some (operated Mul x (2 ^ k))
+unfolding machine_table
+shifted_in x k h few =
+    ap (λ b. if b then None else Some (wrapped (pos x *ℤ pos (2 ^ k)))) (lt-leb 32 k few) ∙ mul_unsigned x (2 ^ k) h (pow_below k 32 few)
