@@ -1,7 +1,7 @@
 #!/usr/bin/env python3
 """Native code: what `native` writes, what gcc makes of it, and what that does: native.py [--program PATH] [--drawn N] [PART..]
 
-texts: of each example, of divisions by constants and of drawn programs, built by three nodes, drawn and for speed: the text is that of a second writer
+texts: of each example, of divisions and products by constants and of drawn programs, built by three nodes, drawn and for speed: the text is that of a second writer
 (native_text.py), on standard output, in a file, and under a prefix, and so is its header; and what gcc makes of it, also static and at a fixed place,
 prints and ends as `exec` tells.
 wrong: programs that go wrong behind an output: that output, `wrong`, status 5.
@@ -38,11 +38,12 @@ SUMS = ("int total;int add(int a){total=total+a;return total;}unsigned eight(uns
         "unsigned h){return a+3u*b+5u*c+7u*d+11u*e+13u*f+17u*g+19u*h;}int ten(int a,int b,int c,int d,int e,int f,int g,int h,int i,int j)"
         "{int r;r=add(j);return (a-b)+2*(c-d)+3*(e-f)+5*(g-h)+7*(i-j)+r-r;}void none(void){total=total+1;}int main(void){int r;r=add(5);return r;}")
 DIVISORS = (1, 2, 3, 4, 6, 8, 255, 256, 257, 2**30, 2**31 - 1, 2**31, 2**31 + 1, 2**32 - 2, 2**32 - 1)
-DIVIDED = (PUT + "unsigned u(unsigned n){unsigned s=n;" + "".join(f"s=31u*s+n/{d}u;s=31u*s+n%{d}u;" for d in DIVISORS) + "return s;}"
+DIVIDED = (PUT + "unsigned u(unsigned n){unsigned s=n;" + "".join(f"s=31u*s+n/{d}u;s=31u*s+n%{d}u;s=31u*s+n*{d}u;" for d in DIVISORS) + "return s;}"
            "unsigned i(int n){unsigned s=(unsigned)n;" + "".join(f"s=31u*s+(unsigned)(n/{d});s=31u*s+(unsigned)(n%{d});" for d in DIVISORS if d < 2**31)
            + "return s;}"
            "int main(void){unsigned s=0u;unsigned n=1u;unsigned r;for(int t=0;t<64;t=t+1){n=n*2654435761u+(unsigned)t;r=u(n);s=31u*s+r;r=i((int)n);s=31u*s+r;"
-           "putchar((int)(s%256u));}return (int)(s%100000u);}")
+           "putchar((int)(s%256u));}for(int t=0;t<520;t=t+1){r=i(t-260);s=31u*s+r;}r=i(-2147483647-1);s=31u*s+r;r=i(-1073741824);s=31u*s+r;"
+           "putchar((int)(s%256u));return (int)(s%100000u);}")
 CALLER = """#include <stdio.h>
 #include "library.h"
 #include "library.h"

@@ -159,7 +159,8 @@ class Writer:
                 else: self.line(MADE[kind], A, D)
             else:
                 self.copy(d, a)
-                self.line(MADE[kind], B if w is None else f"${signed(w)}", D)
+                if kind == "Mul" and is_power(w): self.line("shll", f"${w.bit_length() - 1}", D)
+                else: self.line(MADE[kind], B if w is None else f"${signed(w)}", D)
         elif op in SHIFTED:
             if w is not None and w < 32:
                 self.copy(d, a)
@@ -184,9 +185,20 @@ class Writer:
 
     def divide(self, is_signed, is_quotient, d, a, b, w):
         D, A, B = self.reg(d), self.reg(a), self.reg(b)
-        if not is_signed and is_power(w):
+        if is_power(w) and not is_signed:
             self.copy(d, a)
             self.line("shrl", f"${w.bit_length() - 1}", D) if is_quotient else self.line("andl", f"${signed(w - 1)}", D)
+            return
+        if is_power(w) and w < 2**31:
+            self.move(A, "%eax")
+            self.line("cltd")
+            self.line("andl", f"${w - 1}", "%edx")
+            self.line("addl", "%edx", "%eax")
+            if is_quotient: self.line("sarl", f"${w.bit_length() - 1}", "%eax")
+            else:
+                self.line("andl", f"${w - 1}", "%eax")
+                self.line("subl", "%edx", "%eax")
+            self.move("%eax", D)
             return
         if w is None or w == 0 or is_signed and w == 2**32 - 1:
             self.tested(b, 0, "e")

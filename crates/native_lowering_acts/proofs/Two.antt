@@ -52,7 +52,7 @@ module _ (p : Program FunctionData) (room : Option ℕ) (s : State) (t : Native)
   At op = slice_get related.named.function.code s.place ≡ Some (l.Do (Operate op d (Two a b)))
 
   made : (op : Op) (k : Operator) → At op → kind_of op ≡ Makes k → machine_table op (x ∷ y ∷ []) ≡ Some (operated k x y) → machine_table op (x ∷ y ∷ []) ≡ Some w → To w
-  made op k at kind is e = subst To (gives _ _ w is e) (makes_reaches p room s t related op k d a b x y kind at near near' near'' left_is right_is)
+  made op k at kind is e = subst To (gives _ _ w is e) (makes_reaches p room s t related op k d a b x y kind at near near' near'' left_is right_is small)
 
   compared : (op : Op) (k : Condition) → At op → kind_of op ≡ Compares k → machine_table op (x ∷ y ∷ []) ≡ Some (flag (condition_table k x y)) → machine_table op (x ∷ y ∷ []) ≡ Some w → To w
   compared op k at kind is e = subst To (gives _ _ w is e) (compares_reaches p room s t related op k d a b x y kind at near near' near'' left_is right_is)
@@ -67,7 +67,7 @@ module _ (p : Program FunctionData) (room : Option ℕ) (s : State) (t : Native)
   unsigned op wants v at kind none is same e =
       let some = passed (nat_eq y 0) (machine_table op (x ∷ y ∷ [])) w e none in
       subst To (sym same ∙ gives _ _ w (is some) e)
-      (divides_reaches p room s t related op false wants d a b x y (x / y, x % y) kind at near near' near'' left_is right_is (unsigned_quotient x y some) some tt)
+      (divides_reaches p room s t related op false wants d a b x y (x / y, x % y) kind at near near' near'' left_is right_is (unsigned_quotient x y some) some tt small)
 
   abbrev signed_pair : ℕ × ℕ
   signed_pair = (wrapped (int_div (signed x) (signed y)), wrapped (int_rem (signed x) (signed y)))
@@ -79,7 +79,7 @@ module _ (p : Program FunctionData) (room : Option ℕ) (s : State) (t : Native)
       let some = passed (nat_eq y 0) (machine_table op (x ∷ y ∷ [])) w e none in
       let fits = passed (nat_eq (tested x y) 0) (machine_table op (x ∷ y ∷ [])) w e large in
       subst To (sym same ∙ gives _ _ w (is some fits) e)
-      (divides_reaches p room s t related op true wants d a b x y signed_pair kind at near near' near'' left_is right_is (both_answer x y small small' some fits) some fits)
+      (divides_reaches p room s t related op true wants d a b x y signed_pair kind at near near' near'' left_is right_is (both_answer x y small small' some fits) some fits small)
 
   pub operate_two : (op : Op) → At op → argument_count_of op ≡ 2 → machine_table op (x ∷ y ∷ []) ≡ Some w → To w
   unfolding argument_count_of

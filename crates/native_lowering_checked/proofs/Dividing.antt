@@ -1,10 +1,10 @@
 -- A division, of which the quotient or the rest is wanted.
 use Rattle.std.proofs.Common.{◌≡◌, ℕ, suc, ◌+◌, ◌-◌, ◌/◌, ◌%◌, ◌^◌, ◌<◌, ◌≤◌, Bool, true, false, not, ◌||◌, List, [], ◌∷◌, ◌++◌, length, Option, Some, None, refl, sym, ap, subst, ◌∙◌, arith, length-append}
-use Rattle.std.specs.Prelude.{slice_get, slice_index, slice_set, nat_eq, ◌==◌, if◌then◌else◌, bit_and}
+use Rattle.std.specs.Prelude.{slice_get, slice_index, slice_set, nat_eq, ◌==◌, if◌then◌else◌, int_div, int_rem, bit_and}
 use Rattle.std.specs.Option.{option_map}
-use Rattle.std.proofs.lemmas.Bool.{false≢true}
-use Rattle.std.proofs.lemmas.Nat.{and_mask}
+use Rattle.std.proofs.lemmas.Nat.{and_mask, pow_below}
 use Rattle.std.proofs.lemmas.List.{get_or-set_same, get_or-set_other, length-set}
+use Rattle.ints.specs.Words.{signed as number, wrapped}
 use Rattle.ints.specs.declared.operators.Op.{Op}
 use Rattle.lang_base.specs.declared.program.Program.{Program}
 use Rattle.locations.specs.declared.location.Location.TheVariants.{InRegister}
@@ -31,10 +31,10 @@ use Rattle.native_lowering_definition.specs.Kinds.{Divides, kind_of}
 use Rattle.native_lowering_definition.specs.Layout.{facts_in}
 use Rattle.native_lowering_definition.specs.Lowering.{lowered, code_of}
 use Rattle.native_lowering_definition.specs.Locations.{register_of}
-use Rattle.native_lowering_definition.specs.Operating.{Block, copy, divisor, divisor_tested, divisor_tested_signed, divides_by_ecx, divided_in, divides_by_power, divides_by, operates}
+use Rattle.native_lowering_definition.specs.Operating.{Block, copy, divisor, divisor_tested, divisor_tested_signed, divides_by_ecx, divided_in, divides_unsigned_by_power, divides_by, operates}
 use Rattle.native_lowering_definition.specs.Powers.{power_known}
 use Rattle.native_lowering_definition.proofs.Powers.{power_is}
-use Rattle.native_lowering_numbers.proofs.Quotients.{tested, unsigned_quotient}
+use Rattle.native_lowering_numbers.proofs.Quotients.{tested, unsigned_quotient, both_answer}
 use Rattle.native_lowering_numbers.proofs.Shifts.{shifted_out}
 use Rattle.native_lowering_relation.specs.Knowing.{Answers}
 use Rattle.native_lowering_relation.specs.Related.{Related}
@@ -49,6 +49,7 @@ use Rattle.native_lowering_operators.proofs.Copying.{LeavesIt, straight_copy, co
 use Rattle.native_lowering_operators.proofs.Scratched.{not_scratched, one_scratched}
 use Rattle.native_lowering_operators.proofs.Written.{Scratch, written_here, left_with, writes_reaches}
 use Rattle.native_lowering_checked.proofs.Passing.{same_word, goes_past}
+use Rattle.native_lowering_checked.proofs.Rounding.{quotient_reaches, rest_reaches}
 
 -- what the division gives of the words in edx, eax and ecx, and what is wanted of it
 abbrev pub both_of : Bool → ℕ → ℕ → Option (ℕ × ℕ)
@@ -80,7 +81,7 @@ wanted_in false words x high pair full =
     get_or-set_same (slice_set (before_it words x high) 8 pair.0) 10 pair.1 0
     (omega (arith, length-set (before_it words x high) 8 pair.0, length-set (slice_set words 8 x) 10 high, length-set words 8 x, full))
 
--- the last instruction of a division by 2 ^ k, and the flags behind it
+-- the last instruction of an unsigned division by 2 ^ k, and the flags behind it
 abbrev last_of : Bool → ℕ → ℕ → Instruction
 last_of true d k = n.Shift Shr (register_of d) k
 last_of false d k = n.DoWith o.And (register_of d) (2 ^ k - 1)
@@ -90,12 +91,12 @@ flags_behind true x k = None
 flags_behind false x k = Some (x % 2 ^ k, 0)
 
 power_answers : (quotient : Bool) (d x k : ℕ) (words : List ℕ) → d < length words
-    → Answers (flag_behind_power (Some k) quotient d) (flags_behind quotient x k) (slice_set words d (wanted quotient (x / 2 ^ k, x % 2 ^ k)))
+    → Answers (flag_behind_power (Some k) false quotient d) (flags_behind quotient x k) (slice_set words d (wanted quotient (x / 2 ^ k, x % 2 ^ k)))
 unfolding condition_table
 power_answers true d x k words within = tt
 power_answers false d x k words within = ap (λ n. not (nat_eq n 0)) (sym (get_or-set_same words d (x % 2 ^ k) 0 within))
 
-power_block : (quotient : Bool) (d a k : ℕ) → divides_by_power quotient d a k ≡ copy d a ++ last_of quotient d k ∷ []
+power_block : (quotient : Bool) (d a k : ℕ) → divides_unsigned_by_power quotient d a k ≡ copy d a ++ last_of quotient d k ∷ []
 power_block true d a k = refl
 power_block false d a k = refl
 
@@ -197,7 +198,7 @@ module _ (p : Program FunctionData) (room : Option ℕ) (s : State) (t : Native)
         is_it = ap (λ k. operates k d (Two a b) facts) kind ∙ ap (λ o. divides_by o signed quotient d a b (known b facts)) none ∙ ap (λ z. z ++ the_rest signed quotient d a) is_it;
         count = count;
         target = refl;
-        leaves = ap (λ k. left d (flag_left k (Two a b) d facts) facts) kind ∙ ap (λ o. left d (flag_behind_power o quotient d) facts) none;
+        leaves = ap (λ k. left d (flag_left k (Two a b) d facts) facts) kind ∙ ap (λ o. left d (flag_behind_power o signed quotient d) facts) none;
         straight = below_then first (the_rest signed quotient d a) in_ecx.below (rest_straight signed quotient d a);
         scratch = more (slice_set (before_it in_ecx.words x high) 8 pair.0) 10 pair.1 (omega arith)
             (more (before_it in_ecx.words x high) 8 pair.0 (omega arith) (more (slice_set in_ecx.words 8 x) 10 high (omega arith) (more in_ecx.words 8 x (omega arith) in_ecx.scratch)));
@@ -398,17 +399,29 @@ module _ (p : Program FunctionData) (room : Option ℕ) (s : State) (t : Native)
   by_power op quotient d a b x k kind at near near' left_is power few =
       let last = last_of quotient d k in
       let r = wanted quotient (x / 2 ^ k, x % 2 ^ k) in
-      writes_reaches p room s t related (l.Do (Operate op d (Two a b))) (copy d a ++ last ∷ []) (length (copy d a)) d r (flag_behind_power (Some k) quotient d) (flags_behind quotient x k) t.registers (record {
+      writes_reaches p room s t related (l.Do (Operate op d (Two a b))) (copy d a ++ last ∷ []) (length (copy d a)) d r (flag_behind_power (Some k) false quotient d) (flags_behind quotient x k) t.registers (record {
         at = at;
         is_it = ap (λ k. operates k d (Two a b) facts) kind ∙ ap (λ o. divides_by o false quotient d a b (known b facts)) power ∙ power_block quotient d a k;
         count = count_copy d a last;
         target = refl;
-        leaves = ap (λ k. left d (flag_left k (Two a b) d facts) facts) kind ∙ ap (λ o. left d (flag_behind_power o quotient d) facts) power;
+        leaves = ap (λ k. left d (flag_left k (Two a b) d facts) facts) kind ∙ ap (λ o. left d (flag_behind_power o false quotient d) facts) power;
         straight = straight_copy d a last;
         scratch = unchanged;
         answers = power_answers quotient d x k t.registers (omega (arith, near, related.holds.thirteen));
         walk = copy_walks (lowered p).functions room (code_of p f) t d a x r (flags_behind quotient x k) last near' near related.holds.thirteen (word_here a x left_is) (last_leaves quotient d x k near few);
       })
+
+  -- the same, read as signed
+  abbrev signed_pair : ℕ → ℕ → ℕ × ℕ
+  signed_pair x y = (wrapped (int_div (number x) (number y)), wrapped (int_rem (number x) (number y)))
+
+  same_signed_pair : (x y : ℕ) (pair : ℕ × ℕ) → x < 2 ^ 32 → y < 2 ^ 32 → nat_eq y 0 ≡ false → nat_eq (tested x y) 0 ≡ false → both_of true x y ≡ Some pair → signed_pair x y ≡ pair
+  same_signed_pair x y pair small small' some fits result = let same : Some (signed_pair x y) ≡ Some pair = sym (both_answer x y small small' some fits) ∙ result in cc
+
+  by_signed_power : (op : Op) (quotient : Bool) (d a b x k : ℕ) → kind_of op ≡ Divides true quotient → slice_get f.code s.place ≡ Some (l.Do (Operate op d (Two a b)))
+      → d < 8 → a < 8 → value_at (InRegister a) s.here ≡ Some x → x < 2 ^ 32 → power_known (known b facts) true ≡ Some k → k < 31 → To d (wanted quotient (signed_pair x (2 ^ k)))
+  by_signed_power op true d a b x k kind at near near' left_is small power few = quotient_reaches p room s t related op d a b x k kind at near near' left_is small power few
+  by_signed_power op false d a b x k kind at near near' left_is small power few = rest_reaches p room s t related op d a b x k kind at near near' left_is small power few
 
   -- the divisor is not known, or no power of two
   with_known : (op : Op) (signed quotient : Bool) (d a b x y : ℕ) (pair : ℕ × ℕ) (k : Option ℕ) → kind_of op ≡ Divides signed quotient → slice_get f.code s.place ≡ Some (l.Do (Operate op d (Two a b)))
@@ -429,13 +442,16 @@ module _ (p : Program FunctionData) (room : Option ℕ) (s : State) (t : Native)
 
   chosen_by : (op : Op) (signed quotient : Bool) (d a b x y : ℕ) (pair : ℕ × ℕ) (o : Option ℕ) → kind_of op ≡ Divides signed quotient → slice_get f.code s.place ≡ Some (l.Do (Operate op d (Two a b)))
       → d < 8 → a < 8 → b < 8 → value_at (InRegister a) s.here ≡ Some x → value_at (InRegister b) s.here ≡ Some y → both_of signed x y ≡ Some pair → nat_eq y 0 ≡ false → Passes signed x y
-      → power_known (known b facts) signed ≡ o → To d (wanted quotient pair)
-  chosen_by op signed quotient d a b x y pair None kind at near near' near'' left_is right_is result some fits e =
+      → x < 2 ^ 32 → power_known (known b facts) signed ≡ o → To d (wanted quotient pair)
+  chosen_by op signed quotient d a b x y pair None kind at near near' near'' left_is right_is result some fits small e =
       with_known op signed quotient d a b x y pair (known b facts) kind at near near' near'' left_is right_is result some fits e refl
-  chosen_by op true quotient d a b x y pair (Some k) kind at near near' near'' left_is right_is result some fits e =
+  chosen_by op true quotient d a b x y pair (Some k) kind at near near' near'' left_is right_is result some fits small e =
       let so = power_is (known b facts) true k e in
-      absurd (false≢true (sym so.unsigned))
-  chosen_by op false quotient d a b x y pair (Some k) kind at near near' near'' left_is right_is result some fits e =
+      let same : 2 ^ k ≡ y = same_word (value_at (InRegister b) s.here) (2 ^ k) y (known_is b (2 ^ k) so.word) right_is in
+      let small' : y < 2 ^ 32 = subst (λ w. w < 2 ^ 32) same (pow_below k 32 so.below) in
+      subst (λ z. To d (wanted quotient z)) (ap (signed_pair x) same ∙ same_signed_pair x y pair small small' some fits result)
+      (by_signed_power op quotient d a b x k kind at near near' left_is small e (so.low refl))
+  chosen_by op false quotient d a b x y pair (Some k) kind at near near' near'' left_is right_is result some fits small e =
       let so = power_is (known b facts) false k e in
       let same : 2 ^ k ≡ y = same_word (value_at (InRegister b) s.here) (2 ^ k) y (known_is b (2 ^ k) so.word) right_is in
       subst (λ z. To d (wanted quotient z)) ((λ i. (x / same i, x % same i)) ∙ same_pair x y pair some result)
@@ -444,6 +460,6 @@ module _ (p : Program FunctionData) (room : Option ℕ) (s : State) (t : Native)
   -- the quotient or the rest, where the tests pass
   pub divides_reaches : (op : Op) (signed quotient : Bool) (d a b x y : ℕ) (pair : ℕ × ℕ) → kind_of op ≡ Divides signed quotient → slice_get f.code s.place ≡ Some (l.Do (Operate op d (Two a b)))
       → d < 8 → a < 8 → b < 8 → value_at (InRegister a) s.here ≡ Some x → value_at (InRegister b) s.here ≡ Some y → both_of signed x y ≡ Some pair → nat_eq y 0 ≡ false → Passes signed x y
-      → To d (wanted quotient pair)
-  divides_reaches op signed quotient d a b x y pair kind at near near' near'' left_is right_is result some fits =
-      chosen_by op signed quotient d a b x y pair (power_known (known b facts) signed) kind at near near' near'' left_is right_is result some fits refl
+      → x < 2 ^ 32 → To d (wanted quotient pair)
+  divides_reaches op signed quotient d a b x y pair kind at near near' near'' left_is right_is result some fits small =
+      chosen_by op signed quotient d a b x y pair (power_known (known b facts) signed) kind at near near' near'' left_is right_is result some fits small refl

@@ -1,4 +1,5 @@
 pub mod Passing
 pub mod Shifting
+pub mod Rounding
 pub mod Dividing
 pub mod Unchecked

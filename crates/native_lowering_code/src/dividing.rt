@@ -1,7 +1,7 @@
 //! The blocks of divisions.
 
 ghost use Rattle.std.specs.Prelude.{◌≡◌, ◌<◌};
-ghost use Rattle.native_lowering_definition.specs.Operating.{divisor_tested, divisor_tested_signed, divisor, divided_in, divides_by_power, divides};
+ghost use Rattle.native_lowering_definition.specs.Operating.{divisor_tested, divisor_tested_signed, divisor, divided_in, divides_unsigned_by_power, rounds, divides_signed_by_power, divides_by_power, divides};
 ghost use Rattle.native_lowering_code.specs.Adding.{Adds};
 ghost use Rattle.native_lowering_code.specs.Dividing.{divided};
 
@@ -157,8 +157,8 @@ fn add_divided(
     add(out, &[first, high, Instruction::DivideU { divisor }, last])
 }
 
-/// D becomes the quotient of A and 2 ^ k, or the rest.
-fn add_divided_by_power(
+/// D becomes the quotient of A and 2 ^ k, or the rest, all read as unsigned.
+fn add_unsigned_by_power(
     out: &mut Vec<Instruction>,
     quotient: bool,
     d: u8,
@@ -166,7 +166,7 @@ fn add_divided_by_power(
     k: u32,
 ) -> Result<(), NoMemory>
     requires { k < 32 }
-    ensures { Adds result (divides_by_power quotient d a k) out.old.items out.new.items }
+    ensures { Adds result (divides_unsigned_by_power quotient d a k) out.old.items out.new.items }
 {
     let target = register_of(d);
     if quotient {
@@ -175,6 +175,84 @@ fn add_divided_by_power(
     } else {
         let (op, word) = (Operator::And, (1 << k) - 1);
         add_copied(out, d, a, Instruction::DoWith { op, target, word })
+    }
+}
+
+/// A goes to eax, so that a shift by k rounds toward 0; edx keeps what was added.
+fn add_rounded(out: &mut Vec<Instruction>, a: u8, k: u32) -> Result<(), NoMemory>
+    requires { k < 32 }
+    ensures { Adds result (rounds a k) out.old.items out.new.items }
+{
+    let (eax, edx) = (Register::Eax, Register::Edx);
+    let (sign, word) = (edx, (1 << k) - 1);
+    add(
+        out,
+        &[
+            Instruction::Copy {
+                target: eax,
+                source: register_of(a),
+            },
+            Instruction::Extend,
+            Instruction::DoWith {
+                op: Operator::And,
+                target: sign,
+                word,
+            },
+            Instruction::Do {
+                op: Operator::Add,
+                target: eax,
+                source: edx,
+            },
+        ],
+    )
+}
+
+/// D becomes the quotient of A and 2 ^ k, or the rest, all read as signed.
+fn add_signed_by_power(
+    out: &mut Vec<Instruction>,
+    quotient: bool,
+    d: u8,
+    a: u8,
+    k: u32,
+) -> Result<(), NoMemory>
+    requires { k < 32 }
+    ensures { Adds result (divides_signed_by_power quotient d a k) out.old.items out.new.items }
+{
+    let target = Register::Eax;
+    let last = Instruction::Copy {
+        target: register_of(d),
+        source: target,
+    };
+    add_rounded(out, a, k)?;
+    if quotient {
+        let (op, count) = (Shifting::Sar, k);
+        return add(out, &[Instruction::Shift { op, target, count }, last]);
+    }
+    let (mask, word, source) = (Operator::And, (1 << k) - 1, Register::Edx);
+    let masked = Instruction::DoWith {
+        op: mask,
+        target,
+        word,
+    };
+    let op = Operator::Sub;
+    add(out, &[masked, Instruction::Do { op, target, source }, last])
+}
+
+fn add_divided_by_power(
+    out: &mut Vec<Instruction>,
+    signed: bool,
+    quotient: bool,
+    d: u8,
+    a: u8,
+    k: u32,
+) -> Result<(), NoMemory>
+    requires { k < 32 }
+    ensures { Adds result (divides_by_power signed quotient d a k) out.old.items out.new.items }
+{
+    if signed {
+        add_signed_by_power(out, quotient, d, a, k)
+    } else {
+        add_unsigned_by_power(out, quotient, d, a, k)
     }
 }
 
@@ -190,7 +268,7 @@ pub(crate) fn add_division(
     ensures { Adds result (divides signed quotient d a b known) out.old.items out.new.items }
 {
     match power_known(known, signed) {
-        Some(k) => add_divided_by_power(out, quotient, d, a, k),
+        Some(k) => add_divided_by_power(out, signed, quotient, d, a, k),
         None => {
             add_divisor(out, signed, a, b, known)?;
             add_divided(out, signed, quotient, d, a)

@@ -146,13 +146,15 @@ fn written(target: Option<u8>, facts: &Facts) -> Facts
 }
 
 /// What a division leaves known of the flags where its divisor is 2 ^ k.
-fn flag_behind_power(power: Option<u32>, quotient: bool, d: u8) -> Flag
-    ensures { result ≡ flag_behind_power power quotient d }
+fn flag_behind_power(power: Option<u32>, signed: bool, quotient: bool, d: u8) -> Flag
+    ensures { result ≡ flag_behind_power power signed quotient d }
 {
     match power {
         None => None,
         Some(_) => {
-            if quotient {
+            if signed {
+                None
+            } else if quotient {
                 None
             } else {
                 Some((d, Condition::NotEqual))
@@ -169,7 +171,7 @@ fn flag_left(kind: Kind, arguments: Arguments, d: u8, facts: &Facts) -> Flag
         Kind::Divides(signed, quotient) => match arguments {
             Arguments::One(_) => None,
             Arguments::Two(_, b) => {
-                flag_behind_power(power_known(facts.known(b), signed), quotient, d)
+                flag_behind_power(power_known(facts.known(b), signed), signed, quotient, d)
             }
         },
         Kind::Turns(_) => flag_behind(kind, d),

@@ -2,7 +2,7 @@
 
 ghost use Rattle.std.specs.Prelude.{◌≡◌};
 ghost use Rattle.machine.specs.declared.arguments.Arguments.TheVariants.{One, Two};
-ghost use Rattle.native_lowering_definition.specs.Operating.{makes_in_second, makes, shifts_tested, shifts, compare, operates};
+ghost use Rattle.native_lowering_definition.specs.Operating.{makes_in_second, makes_with, makes, shifts_tested, shifts, compare, operates};
 ghost use Rattle.native_lowering_code.specs.Adding.{Adds};
 ghost use Rattle.native_lowering_code.specs.Kinds.{kind_in};
 
@@ -10,6 +10,7 @@ use crate::adding::{add, add_copied};
 use crate::dividing::add_division;
 use crate::facts::Facts;
 use crate::kinds::Kind;
+use crate::powers::exponent;
 use crate::registers::register_of;
 use lang_base::NoMemory;
 use machine::Arguments;
@@ -45,6 +46,26 @@ fn add_in_second(out: &mut Vec<Instruction>, op: Operator, d: u8, a: u8) -> Resu
     }
 }
 
+/// D becomes what is made of it and a word: a product by 2 ^ k is a shift.
+fn made_with(op: Operator, d: u8, word: u32) -> Instruction
+    ensures { result ≡ makes_with op d word }
+{
+    let target = register_of(d);
+    match op {
+        Operator::Mul => match exponent(word) {
+            Some(count) => Instruction::Shift {
+                op: Shifting::Shl,
+                target,
+                count,
+            },
+            None => Instruction::DoWith { op, target, word },
+        },
+        Operator::Add | Operator::Sub | Operator::And | Operator::Or | Operator::Xor => {
+            Instruction::DoWith { op, target, word }
+        }
+    }
+}
+
 fn add_made(
     out: &mut Vec<Instruction>,
     op: Operator,
@@ -57,7 +78,7 @@ fn add_made(
 {
     let (target, source) = (register_of(d), register_of(b));
     match known {
-        Some(word) => add_copied(out, d, a, Instruction::DoWith { op, target, word }),
+        Some(word) => add_copied(out, d, a, made_with(op, d, word)),
         None => {
             if b == d && a != b {
                 add_in_second(out, op, d, a)

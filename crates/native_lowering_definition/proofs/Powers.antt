@@ -1,7 +1,7 @@
 -- Exponents of words that are powers of two.
-use Rattle.std.proofs.Common.{◌≡◌, ℕ, zero, suc, ◌+◌, ◌-◌, ◌^◌, ◌<◌, Bool, true, false, Option, Some, None, refl, sym, ap, ◌∙◌, arith}
-use Rattle.std.specs.Prelude.{nat_eq, if◌then◌else◌}
-use Rattle.std.proofs.lemmas.Bool.{eqb-true, eq-eqb}
+use Rattle.std.proofs.Common.{◌≡◌, ℕ, zero, suc, ◌+◌, ◌-◌, ◌^◌, ◌<◌, Bool, true, false, ◌||◌, Option, Some, None, refl, sym, ap, ◌∙◌, arith}
+use Rattle.std.specs.Prelude.{nat_eq, nat_lt, ◌==◌, if◌then◌else◌}
+use Rattle.std.proofs.lemmas.Bool.{eqb-true, eq-eqb, ltb-true, ltb-false}
 use Rattle.std.proofs.lemmas.Nat.{pow_pos}
 use Rattle.native_lowering_definition.specs.Powers.{exponent_from, exponent, power_known}
 
@@ -69,15 +69,45 @@ none_at_zero w none = by (exponent w) refl
         let zero_is : 2 ^ k ≡ 0 = sym so.0 ∙ eqb-true w 0 none in
         absurd (omega (arith, pow_pos k, zero_is))
 
+-- and 2 ^ 32 - 1 is none that is below 2 ^ 31
+pub none_signed : (w : ℕ) → (w == 0 || w == 2 ^ 32 - 1) ≡ true → power_known (Some w) true ≡ None
+none_signed w told = by (nat_lt w (2 ^ 31)) (nat_eq w 0) refl refl
+  where
+    by : (b z : Bool) → nat_lt w (2 ^ 31) ≡ b → nat_eq w 0 ≡ z → power_known (Some w) true ≡ None
+    by false z low none = ap (λ b. if b then exponent w else None) low
+    by true true low none = ap (λ b. if b then exponent w else None) low ∙ none_at_zero w none
+    by true false low none =
+        let last : nat_eq w (2 ^ 32 - 1) ≡ true = sym (ap (λ z. z || nat_eq w (2 ^ 32 - 1)) none) ∙ told in
+        absurd (omega (arith, ltb-true w (2 ^ 31) low, eqb-true w (2 ^ 32 - 1) last))
+
 -- what a power that is known tells of the divisor
 pub record IsPower (w : Option ℕ) (signed : Bool) (k : ℕ) : Type 0 where
-  pub unsigned : signed ≡ false
   pub word : w ≡ Some (2 ^ k)
   pub below : k < 32
+  pub low : signed ≡ true → k < 31
+
+true_only : (P : Type 0) → false ≡ true → P
+true_only P e = absurd (no e)
+  where
+    no : false ≡ true → ⊥
+    no e = cc
+
+low_exponent : (b : Bool) (w k : ℕ) → nat_lt k 31 ≡ b → w < 2 ^ 31 → IsExponent 32 w k → k < 31
+low_exponent true w k told small so = ltb-true k 31 told
+low_exponent false w k told small so =
+    let least : k ≡ 31 = omega (arith, ltb-false k 31 told, so.1) in
+    let same : w ≡ 2 ^ 31 = so.0 ∙ ap (λ n. 2 ^ n) least in
+    absurd (omega (arith, same, small))
+
+signed_is : (b : Bool) (w k : ℕ) → nat_lt w (2 ^ 31) ≡ b → (if b then exponent w else None) ≡ Some k → IsPower (Some w) true k
+signed_is true w k told e =
+    let so = from_is 0 32 w k e in
+    record { word = ap Some so.0; below = so.1; low = λ same. low_exponent (nat_lt k 31) w k refl (ltb-true w (2 ^ 31) told) so }
+signed_is false w k told e = none_is _ k e
 
 pub power_is : (w : Option ℕ) (signed : Bool) (k : ℕ) → power_known w signed ≡ Some k → IsPower w signed k
 power_is None signed k e = none_is _ k e
-power_is (Some w) true k e = none_is _ k e
+power_is (Some w) true k e = signed_is (nat_lt w (2 ^ 31)) w k refl e
 power_is (Some w) false k e =
     let so = from_is 0 32 w k e in
-    record { unsigned = refl; word = ap Some so.0; below = so.1 }
+    record { word = ap Some so.0; below = so.1; low = λ same. true_only (k < 31) same }

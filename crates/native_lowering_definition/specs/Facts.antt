@@ -61,15 +61,16 @@ flag_behind (Divides signed quotient) d = None
 flag_behind (Compares condition) d = Some (d, condition)
 flag_behind AsksZero d = Some (d, Equal)
 
--- what a division leaves where its divisor is 2 ^ k: a rest is masked
-abbrev pub flag_behind_power : Option ℕ → Bool → ℕ → Option (ℕ × Condition)
-flag_behind_power None quotient d = None
-flag_behind_power (Some k) true d = None
-flag_behind_power (Some k) false d = Some (d, NotEqual)
+-- what a division, signed or not, leaves where its divisor is 2 ^ k: an unsigned rest is masked
+abbrev pub flag_behind_power : Option ℕ → Bool → Bool → ℕ → Option (ℕ × Condition)
+flag_behind_power None signed quotient d = None
+flag_behind_power (Some k) true quotient d = None
+flag_behind_power (Some k) false true d = None
+flag_behind_power (Some k) false false d = Some (d, NotEqual)
 
 -- the same of an operator with these arguments
 abbrev pub flag_left : Kind → Arguments → ℕ → Facts → Option (ℕ × Condition)
-flag_left (Divides signed quotient) (Two a b) d facts = flag_behind_power (power_known (known b facts) signed) quotient d
+flag_left (Divides signed quotient) (Two a b) d facts = flag_behind_power (power_known (known b facts) signed) signed quotient d
 flag_left kind arguments d facts = flag_behind kind d
 
 abbrev pub written : Option ℕ → Facts → Facts

@@ -8,7 +8,7 @@ use Rattle.x86_syntax.specs.declared.operators.Operator.TheVariants as o
 use Rattle.x86_syntax.specs.declared.operators.Turning.{Turning}
 use Rattle.x86_syntax.specs.declared.operators.Turning.TheVariants as t
 use Rattle.x86_syntax.specs.declared.operators.Shifting.{Shifting}
-use Rattle.x86_syntax.specs.declared.operators.Shifting.TheVariants.{Shr}
+use Rattle.x86_syntax.specs.declared.operators.Shifting.TheVariants.{Shl, Shr, Sar}
 use Rattle.x86_syntax.specs.declared.instruction.Instruction.{Instruction}
 use Rattle.x86_syntax.specs.declared.instruction.Instruction.TheVariants.{Copy, Set, Do, DoWith, Turn, Shift, ShiftBy, Extend, Divide, DivideU, Compare, CompareWith, Flag, Stop, StopIf}
 use Rattle.x86_syntax.specs.declared.register.Register.{Register}
@@ -16,7 +16,7 @@ use Rattle.x86_syntax.specs.declared.register.Register.TheVariants.{Eax, Ecx, Ed
 use Rattle.native_lowering_definition.specs.Facts.{Facts, known}
 use Rattle.native_lowering_definition.specs.Kinds.{Kind, Turns, Makes, Shifts, Divides, Compares, AsksZero}
 use Rattle.native_lowering_definition.specs.Locations.{register_of}
-use Rattle.native_lowering_definition.specs.Powers.{power_known}
+use Rattle.native_lowering_definition.specs.Powers.{exponent, power_known}
 
 abbrev pub Block : Type 0
 Block = List Instruction
@@ -33,8 +33,17 @@ abbrev pub makes_in_second : Operator → ℕ → ℕ → Block
 makes_in_second o.Sub d a = Copy Eax (register_of a) ∷ Do o.Sub Eax (register_of d) ∷ Copy (register_of d) Eax ∷ []
 makes_in_second op d a = Do op (register_of d) (register_of a) ∷ []
 
+-- D is multiplied by a word, which may be 2 ^ k
+abbrev pub multiplies_with : Option ℕ → ℕ → ℕ → Instruction
+multiplies_with None d w = DoWith o.Mul (register_of d) w
+multiplies_with (Some k) d w = Shift Shl (register_of d) k
+
+abbrev pub makes_with : Operator → ℕ → ℕ → Instruction
+makes_with o.Mul d w = multiplies_with (exponent w) d w
+makes_with op d w = DoWith op (register_of d) w
+
 abbrev pub makes : Operator → ℕ → ℕ → ℕ → Option ℕ → Block
-makes op d a b (Some w) = copy d a ++ DoWith op (register_of d) w ∷ []
+makes op d a b (Some w) = copy d a ++ makes_with op d w ∷ []
 makes op d a b None =
     if b == d && not (a == b) then makes_in_second op d a else copy d a ++ Do op (register_of d) (register_of b) ∷ []
 
@@ -73,13 +82,27 @@ abbrev pub divides_by_ecx : Bool → ℕ → Block
 divides_by_ecx true a = Copy Eax (register_of a) ∷ Extend ∷ Divide Ecx ∷ []
 divides_by_ecx false a = Copy Eax (register_of a) ∷ Set Edx 0 ∷ DivideU Ecx ∷ []
 
--- by 2 ^ k: the quotient is shifted out, the rest is what is left of the bits below
-abbrev pub divides_by_power : Bool → ℕ → ℕ → ℕ → Block
-divides_by_power true d a k = copy d a ++ Shift Shr (register_of d) k ∷ []
-divides_by_power false d a k = copy d a ++ DoWith o.And (register_of d) (2 ^ k - 1) ∷ []
+-- by 2 ^ k, read as unsigned: the quotient is shifted out, the rest is what is left of the bits below
+abbrev pub divides_unsigned_by_power : Bool → ℕ → ℕ → ℕ → Block
+divides_unsigned_by_power true d a k = copy d a ++ Shift Shr (register_of d) k ∷ []
+divides_unsigned_by_power false d a k = copy d a ++ DoWith o.And (register_of d) (2 ^ k - 1) ∷ []
+
+-- A goes to eax; where it is below 0, 2 ^ k - 1 is added, and else 0, which edx keeps: so a shift, which rounds down, rounds toward 0
+-- (ISO/IEC 9899:1999, 6.5.5, paragraph 6)
+abbrev pub rounds : ℕ → ℕ → Block
+rounds a k = Copy Eax (register_of a) ∷ Extend ∷ DoWith o.And Edx (2 ^ k - 1) ∷ Do o.Add Eax Edx ∷ []
+
+-- by 2 ^ k, read as signed: what was added to the rest is taken from it
+abbrev pub divides_signed_by_power : Bool → ℕ → ℕ → ℕ → Block
+divides_signed_by_power true d a k = rounds a k ++ Shift Sar Eax k ∷ Copy (register_of d) Eax ∷ []
+divides_signed_by_power false d a k = rounds a k ++ DoWith o.And Eax (2 ^ k - 1) ∷ Do o.Sub Eax Edx ∷ Copy (register_of d) Eax ∷ []
+
+abbrev pub divides_by_power : Bool → Bool → ℕ → ℕ → ℕ → Block
+divides_by_power true quotient d a k = divides_signed_by_power quotient d a k
+divides_by_power false quotient d a k = divides_unsigned_by_power quotient d a k
 
 abbrev pub divides_by : Option ℕ → Bool → Bool → ℕ → ℕ → ℕ → Option ℕ → Block
-divides_by (Some k) signed quotient d a b w = divides_by_power quotient d a k
+divides_by (Some k) signed quotient d a b w = divides_by_power signed quotient d a k
 divides_by None signed quotient d a b w =
     divisor signed a b w ++ (divides_by_ecx signed a ++ Copy (register_of d) (divided_in quotient) ∷ [])
 

@@ -21,8 +21,8 @@ use Rattle.native_lowering_definition.specs.Blocks.{Around, prints, acts, gets, 
 use Rattle.native_lowering_definition.specs.Facts.{Facts, known, answered}
 use Rattle.native_lowering_definition.specs.Frames.{Frame, size_of, saved_cell}
 use Rattle.native_lowering_definition.specs.Kinds.{Kind, Turns, Makes, Shifts, Divides, Compares, AsksZero, kind_of}
-use Rattle.native_lowering_definition.specs.Operating.{copy, makes_in_second, makes, shifts_tested, shifts, divisor, divides_by_ecx, divides_by_power, divides_by, divides, compare, operates}
-use Rattle.native_lowering_definition.specs.Powers.{power_known}
+use Rattle.native_lowering_definition.specs.Operating.{copy, makes_in_second, multiplies_with, makes_with, makes, shifts_tested, shifts, divisor, divides_by_ecx, divides_unsigned_by_power, divides_signed_by_power, divides_by_power, divides_by, divides, compare, operates}
+use Rattle.native_lowering_definition.specs.Powers.{exponent, power_known}
 use Rattle.native_lowering_definition.specs.Reaching.{loads, stores}
 use Rattle.native_lowering_layout.proofs.Free.{IsFree, free_both, free_if, free_copy, free_puts, free_moves, free_passes, free_receives}
 
@@ -37,9 +37,23 @@ free_second And d a = (refl, tt)
 free_second Or d a = (refl, tt)
 free_second Xor d a = (refl, tt)
 
+none_multiplies : (o : Option ℕ) (d w : ℕ) → label_of (multiplies_with o d w) ≡ None
+unfolding label_of
+none_multiplies None d w = refl
+none_multiplies (Some k) d w = refl
+
+none_makes_with : (op : Operator) (d w : ℕ) → label_of (makes_with op d w) ≡ None
+unfolding label_of
+none_makes_with Add d w = refl
+none_makes_with Sub d w = refl
+none_makes_with Mul d w = none_multiplies (exponent w) d w
+none_makes_with And d w = refl
+none_makes_with Or d w = refl
+none_makes_with Xor d w = refl
+
 free_makes : (op : Operator) (d a b : ℕ) (w : Option ℕ) → IsFree (makes op d a b w)
 unfolding label_of
-free_makes op d a b (Some w) = free_both (copy d a) _ (free_copy d a) (refl, tt)
+free_makes op d a b (Some w) = free_both (copy d a) _ (free_copy d a) (none_makes_with op d w, tt)
 free_makes op d a b None = free_if (b == d && not (a == b)) _ _ (free_second op d a) (free_both (copy d a) _ (free_copy d a) (refl, tt))
 
 free_shifts_tested : (op : Shifting) (d a b : ℕ) → IsFree (shifts_tested op d a b)
@@ -63,14 +77,23 @@ unfolding label_of
 free_by_ecx true a = (refl, (refl, (refl, tt)))
 free_by_ecx false a = (refl, (refl, (refl, tt)))
 
-free_by_power : (quotient : Bool) (d a k : ℕ) → IsFree (divides_by_power quotient d a k)
+free_unsigned : (quotient : Bool) (d a k : ℕ) → IsFree (divides_unsigned_by_power quotient d a k)
 unfolding label_of
-free_by_power true d a k = free_both (copy d a) _ (free_copy d a) (refl, tt)
-free_by_power false d a k = free_both (copy d a) _ (free_copy d a) (refl, tt)
+free_unsigned true d a k = free_both (copy d a) _ (free_copy d a) (refl, tt)
+free_unsigned false d a k = free_both (copy d a) _ (free_copy d a) (refl, tt)
+
+free_signed : (quotient : Bool) (d a k : ℕ) → IsFree (divides_signed_by_power quotient d a k)
+unfolding label_of
+free_signed true d a k = (refl, (refl, (refl, (refl, (refl, (refl, tt))))))
+free_signed false d a k = (refl, (refl, (refl, (refl, (refl, (refl, (refl, tt)))))))
+
+free_by_power : (signed quotient : Bool) (d a k : ℕ) → IsFree (divides_by_power signed quotient d a k)
+free_by_power true quotient d a k = free_signed quotient d a k
+free_by_power false quotient d a k = free_unsigned quotient d a k
 
 free_divides_by : (o : Option ℕ) (signed quotient : Bool) (d a b : ℕ) (w : Option ℕ) → IsFree (divides_by o signed quotient d a b w)
 unfolding label_of
-free_divides_by (Some k) signed quotient d a b w = free_by_power quotient d a k
+free_divides_by (Some k) signed quotient d a b w = free_by_power signed quotient d a k
 free_divides_by None signed quotient d a b w =
     free_both (divisor signed a b w) _ (free_divisor signed a b w) (free_both (divides_by_ecx signed a) _ (free_by_ecx signed a) (refl, tt))
 

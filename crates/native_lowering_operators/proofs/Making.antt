@@ -1,6 +1,7 @@
 -- What is made of two words.
-use Rattle.std.proofs.Common.{◌≡◌, ◌≢◌, ℕ, zero, suc, ◌+◌, ◌<◌, Bool, true, false, not, ◌&&◌, List, [], ◌∷◌, ◌++◌, length, Option, Some, None, refl, sym, ap, subst, ◌∙◌, pos, ◌*ℤ◌, arith}
+use Rattle.std.proofs.Common.{◌≡◌, ◌≢◌, ℕ, zero, suc, ◌+◌, ◌<◌, Bool, true, false, not, ◌&&◌, List, [], ◌∷◌, ◌++◌, length, Option, Some, None, refl, sym, ap, subst, ◌∙◌, pos, ◌*ℤ◌, ◌^◌, arith}
 use Rattle.std.specs.Prelude.{slice_get, slice_index, slice_set, nat_eq, if◌then◌else◌}
+use Rattle.std.specs.Option.{option_map}
 use lib.IntN.{*ℤ_comm}
 use Rattle.std.proofs.lemmas.Bool.{eqb-true, eq-eqb, false≢true}
 use Rattle.std.proofs.lemmas.Int.{ints}
@@ -19,18 +20,22 @@ use Rattle.linear_language.specs.Function.{FunctionData}
 use Rattle.x86_syntax.specs.Registers.{number_of}
 use Rattle.x86_syntax.specs.declared.condition.Condition.TheVariants.{NotEqual}
 use Rattle.x86_syntax.specs.declared.instruction.Instruction.{Instruction}
-use Rattle.x86_syntax.specs.declared.instruction.Instruction.TheVariants.{Copy, Do, DoWith}
+use Rattle.x86_syntax.specs.declared.instruction.Instruction.TheVariants.{Copy, Do, DoWith, Shift}
 use Rattle.x86_syntax.specs.declared.operators.Operator.{Operator}
 use Rattle.x86_syntax.specs.declared.operators.Operator.TheVariants.{Add, Sub, Mul, And, Or, Xor}
+use Rattle.x86_syntax.specs.declared.operators.Shifting.TheVariants.{Shl}
 use Rattle.x86_syntax.specs.declared.register.Register.TheVariants.{Eax}
-use Rattle.x86_state.specs.State.{State as Native, Goes, word}
-use Rattle.x86_state.specs.Tables.{operated, flags_of, condition_table}
+use Rattle.x86_state.specs.State.{State as Native, Goes, does, word, put, with_flags}
+use Rattle.x86_state.specs.Tables.{operated, shifted, flags_of, condition_table}
 use Rattle.native_lowering_definition.specs.Facts.{Facts, known, flag_behind, flag_left, left}
 use Rattle.native_lowering_definition.specs.Kinds.{Makes, kind_of}
 use Rattle.native_lowering_definition.specs.Layout.{facts_in}
 use Rattle.native_lowering_definition.specs.Lowering.{lowered, code_of}
 use Rattle.native_lowering_definition.specs.Locations.{register_of}
-use Rattle.native_lowering_definition.specs.Operating.{Block, copy, makes, makes_in_second, operates}
+use Rattle.native_lowering_definition.specs.Operating.{Block, copy, makes, makes_with, makes_in_second, multiplies_with, operates}
+use Rattle.native_lowering_definition.specs.Powers.{exponent}
+use Rattle.native_lowering_definition.proofs.Powers.{power_is}
+use Rattle.native_lowering_numbers.proofs.Shifts.{shifted_in}
 use Rattle.native_lowering_relation.specs.Knowing.{Answers}
 use Rattle.native_lowering_relation.specs.Related.{Related}
 use Rattle.native_lowering_relation.proofs.Agreeing.{agree_at, word_is}
@@ -92,6 +97,31 @@ module _ (p : Program FunctionData) (room : Option ℕ) (s : State) (t : Native)
   with_word_leaves : (op : Operator) (d x w : ℕ) → d < 8 → Leaves d x (operated op x w) (flags_of op (operated op x w)) (DoWith op (register_of d) w)
   with_word_leaves op d x w near = λ v here others flags.
       λ i. Goes (record v { place = v.place + 1; registers = slice_set v.registers (number_is d near i) (operated op ((ap (slice_index v.registers) (number_is d near) ∙ here) i) w); flags = flags_of op (operated op ((ap (slice_index v.registers) (number_is d near) ∙ here) i) w) })
+
+  -- a product by 2 ^ k
+  shifted_leaves : (d x k : ℕ) → d < 8 → x < 2 ^ 32 → k < 32 → Leaves d x (operated Mul x (2 ^ k)) None (Shift Shl (register_of d) k)
+  shifted_leaves d x k near small few = λ v here others flags.
+      let left_word : word (register_of d) v ≡ x = ap (slice_index v.registers) (number_is d near) ∙ here in
+      ap (λ w. does (option_map (λ q. with_flags None (put (register_of d) q v)) (shifted Shl w k))) left_word
+      ∙ ap (λ q. does (option_map (λ w. with_flags None (put (register_of d) w v)) q)) (shifted_in x k small few)
+      ∙ (λ i. Goes (record v { place = v.place + 1; registers = slice_set v.registers (number_is d near i) (operated Mul x (2 ^ k)); flags = None }))
+
+  multiplied_leaves : (o : Option ℕ) (d x w : ℕ) → d < 8 → x < 2 ^ 32 → exponent w ≡ o → Leaves d x (operated Mul x w) (flags_of Mul (operated Mul x w)) (multiplies_with o d w)
+  unfolding flags_of
+  multiplied_leaves None d x w near small e = with_word_leaves Mul d x w near
+  multiplied_leaves (Some k) d x w near small e =
+      let so = power_is (Some w) false k e in
+      let is : Some w ≡ Some (2 ^ k) = so.word in
+      let same : 2 ^ k ≡ w = cc in
+      subst (λ z. Leaves d x (operated Mul x z) None (Shift Shl (register_of d) k)) same (shifted_leaves d x k near small so.below)
+
+  made_with_leaves : (op : Operator) (d x w : ℕ) → d < 8 → x < 2 ^ 32 → Leaves d x (operated op x w) (flags_of op (operated op x w)) (makes_with op d w)
+  made_with_leaves Add d x w near small = with_word_leaves Add d x w near
+  made_with_leaves Sub d x w near small = with_word_leaves Sub d x w near
+  made_with_leaves Mul d x w near small = multiplied_leaves (exponent w) d x w near small refl
+  made_with_leaves And d x w near small = with_word_leaves And d x w near
+  made_with_leaves Or d x w near small = with_word_leaves Or d x w near
+  made_with_leaves Xor d x w near small = with_word_leaves Xor d x w near
 
   with_register_leaves : (op : Operator) (d b x y : ℕ) → d < 8 → b < 8 → (b ≡ d → y ≡ x) → slice_index t.registers b ≡ y
       → Leaves d x (operated op x y) (flags_of op (operated op x y)) (Do op (register_of d) (register_of b))
@@ -206,15 +236,15 @@ module _ (p : Program FunctionData) (room : Option ℕ) (s : State) (t : Native)
       (with_register_leaves op d b x y near near'' (λ same. absurd (false≢true (sym e ∙ eq-eqb b d same))) right_is)
 
   with_known : (o : Op) (op : Operator) (d a b x y : ℕ) (k : Option ℕ) → kind_of o ≡ Makes op → slice_get f.code s.place ≡ Some (l.Do (Operate o d (Two a b))) → d < 8 → a < 8 → b < 8
-      → value_at (InRegister a) s.here ≡ Some x → value_at (InRegister b) s.here ≡ Some y → known b facts ≡ k → To d (operated op x y)
-  with_known o op d a b x y None kind at near near' near'' left_is right_is e =
+      → value_at (InRegister a) s.here ≡ Some x → value_at (InRegister b) s.here ≡ Some y → x < 2 ^ 32 → known b facts ≡ k → To d (operated op x y)
+  with_known o op d a b x y None kind at near near' near'' left_is right_is small e =
       unknown o op d a b x y (nat_eq b d) (nat_eq a b) refl refl kind at near near' near'' (word_here a x left_is) (word_here b y right_is) e
-  with_known o op d a b x y (Some w) kind at near near' near'' left_is right_is e =
+  with_known o op d a b x y (Some w) kind at near near' near'' left_is right_is small e =
       let so : value_at (InRegister b) s.here ≡ Some w = knows_word (known b facts) (value_at (InRegister b) s.here) w (knows_at facts.words s.here.registers b related.known.known) e in
       let same : w ≡ y = cc in
       subst (λ z. To d (operated op x z)) same
-      (in_first o op d a b x w (DoWith op (register_of d) w) kind at near near' (word_here a x left_is) (ap (makes op d a b) e) (with_word_leaves op d x w near))
+      (in_first o op d a b x w (makes_with op d w) kind at near near' (word_here a x left_is) (ap (makes op d a b) e) (made_with_leaves op d x w near small))
 
   pub makes_reaches : (o : Op) (op : Operator) (d a b x y : ℕ) → kind_of o ≡ Makes op → slice_get f.code s.place ≡ Some (l.Do (Operate o d (Two a b))) → d < 8 → a < 8 → b < 8
-      → value_at (InRegister a) s.here ≡ Some x → value_at (InRegister b) s.here ≡ Some y → To d (operated op x y)
-  makes_reaches o op d a b x y kind at near near' near'' left_is right_is = with_known o op d a b x y (known b facts) kind at near near' near'' left_is right_is refl
+      → value_at (InRegister a) s.here ≡ Some x → value_at (InRegister b) s.here ≡ Some y → x < 2 ^ 32 → To d (operated op x y)
+  makes_reaches o op d a b x y kind at near near' near'' left_is right_is small = with_known o op d a b x y (known b facts) kind at near near' near'' left_is right_is small refl

@@ -26,7 +26,7 @@ use Rattle.native_lowering_definition.specs.Locations.{register_of}
 use Rattle.native_lowering_definition.specs.Lowering.{code_of, lowered}
 use Rattle.native_lowering_definition.specs.Operating.{Block, divisor, divides_by_ecx, divided_in, divides_by, operates}
 use Rattle.native_lowering_definition.specs.Powers.{power_known}
-use Rattle.native_lowering_definition.proofs.Powers.{none_at_zero}
+use Rattle.native_lowering_definition.proofs.Powers.{none_at_zero, none_signed}
 use Rattle.native_lowering_numbers.proofs.Quotients.{tested}
 use Rattle.native_lowering_relation.specs.Related.{Related}
 use Rattle.native_lowering_walks.specs.Walks.{then as onward, walks}
@@ -70,7 +70,7 @@ module _ (p : Program FunctionData) (s : State) (t : Native) (related : Related 
   -- and then it is no power of two
   no_power : (signed : Bool) (b : ℕ) (k : Option ℕ) → b < 8 → tells signed (word_at b) ≡ true → known b facts ≡ k → power_known k signed ≡ None
   no_power signed b None near told e = refl
-  no_power true b (Some w) near told e = refl
+  no_power true b (Some w) near told e = none_signed w (ap (tells true) (sym (known_word p s t related defined b w near e)) ∙ told)
   no_power false b (Some w) near told e = none_at_zero w (ap (tells false) (sym (known_word p s t related defined b w near e)) ∙ told)
 
   abbrev the_rest : Bool → Bool → ℕ → ℕ → Block

@@ -22,8 +22,8 @@ use Rattle.native_lowering_definition.specs.Blocks.{Around, prints, acts, gets, 
 use Rattle.native_lowering_definition.specs.Facts.{Facts, known, answered}
 use Rattle.native_lowering_definition.specs.Frames.{Frame, size_of, saved_cell}
 use Rattle.native_lowering_definition.specs.Kinds.{Kind, Turns, Makes, Shifts, Divides, Compares, AsksZero, kind_of}
-use Rattle.native_lowering_definition.specs.Operating.{copy, makes_in_second, makes, shifts_tested, shifts, divisor_tested_signed, divisor, divides_by_ecx, divides_by_power, divides_by, divides, compare, operates}
-use Rattle.native_lowering_definition.specs.Powers.{power_known}
+use Rattle.native_lowering_definition.specs.Operating.{copy, makes_in_second, multiplies_with, makes_with, makes, shifts_tested, shifts, divisor_tested_signed, divisor, divides_by_ecx, divides_unsigned_by_power, divides_signed_by_power, divides_by_power, divides_by, divides, compare, operates}
+use Rattle.native_lowering_definition.specs.Powers.{exponent, power_known}
 use Rattle.native_lowering_definition.specs.Reaching.{loads, stores}
 use Rattle.native_lowering_definition.proofs.Powers.{power_is}
 use Rattle.native_lowering_ranges.specs.Range.{AreWords}
@@ -41,8 +41,20 @@ narrow_second And d a = (tt, tt)
 narrow_second Or d a = (tt, tt)
 narrow_second Xor d a = (tt, tt)
 
+narrow_multiplies : (o : Option ℕ) (d w : ℕ) → ((k : ℕ) → o ≡ Some k → k < 32) → w < 2 ^ 32 → IsNarrow (multiplies_with o d w)
+narrow_multiplies None d w low small = small
+narrow_multiplies (Some k) d w low small = omega (arith, low k refl)
+
+narrow_makes_with : (op : Operator) (d w : ℕ) → w < 2 ^ 32 → IsNarrow (makes_with op d w)
+narrow_makes_with Add d w small = small
+narrow_makes_with Sub d w small = small
+narrow_makes_with Mul d w small = narrow_multiplies (exponent w) d w (λ k e. (power_is (Some w) false k e).below) small
+narrow_makes_with And d w small = small
+narrow_makes_with Or d w small = small
+narrow_makes_with Xor d w small = small
+
 narrow_makes : (op : Operator) (d a b : ℕ) (w : Option ℕ) → IsWord w → AreNarrow (makes op d a b w)
-narrow_makes op d a b (Some w) small = narrow_both (copy d a) _ (narrow_copy d a) (small w refl, tt)
+narrow_makes op d a b (Some w) small = narrow_both (copy d a) _ (narrow_copy d a) (narrow_makes_with op d w (small w refl), tt)
 narrow_makes op d a b None small = narrow_if (b == d && not (a == b)) _ _ (narrow_second op d a) (narrow_both (copy d a) _ (narrow_copy d a) (tt, tt))
 
 narrow_shifts_tested : (op : Shifting) (d a b : ℕ) → AreNarrow (shifts_tested op d a b)
@@ -65,12 +77,22 @@ narrow_by_ecx : (signed : Bool) (a : ℕ) → AreNarrow (divides_by_ecx signed a
 narrow_by_ecx true a = (tt, (tt, (tt, tt)))
 narrow_by_ecx false a = (tt, (lit< tt, (tt, tt)))
 
-narrow_by_power : (quotient : Bool) (d a k : ℕ) → k < 32 → AreNarrow (divides_by_power quotient d a k)
-narrow_by_power true d a k small = narrow_both (copy d a) _ (narrow_copy d a) (omega (arith, small), tt)
-narrow_by_power false d a k small = narrow_both (copy d a) _ (narrow_copy d a) (omega (arith, pow_below k 32 small), tt)
+narrow_unsigned : (quotient : Bool) (d a k : ℕ) → k < 32 → AreNarrow (divides_unsigned_by_power quotient d a k)
+narrow_unsigned true d a k small = narrow_both (copy d a) _ (narrow_copy d a) (omega (arith, small), tt)
+narrow_unsigned false d a k small = narrow_both (copy d a) _ (narrow_copy d a) (omega (arith, pow_below k 32 small), tt)
+
+narrow_signed : (quotient : Bool) (d a k : ℕ) → k < 32 → AreNarrow (divides_signed_by_power quotient d a k)
+narrow_signed true d a k small = (tt, (tt, (omega (arith, pow_below k 32 small), (tt, (omega (arith, small), (tt, tt))))))
+narrow_signed false d a k small =
+    let mask : 2 ^ k - 1 < 2 ^ 32 = omega (arith, pow_below k 32 small) in
+    (tt, (tt, (mask, (tt, (mask, (tt, (tt, tt)))))))
+
+narrow_by_power : (signed quotient : Bool) (d a k : ℕ) → k < 32 → AreNarrow (divides_by_power signed quotient d a k)
+narrow_by_power true quotient d a k small = narrow_signed quotient d a k small
+narrow_by_power false quotient d a k small = narrow_unsigned quotient d a k small
 
 narrow_divides_by : (o : Option ℕ) (signed quotient : Bool) (d a b : ℕ) (w : Option ℕ) → ((k : ℕ) → o ≡ Some k → k < 32) → IsWord w → AreNarrow (divides_by o signed quotient d a b w)
-narrow_divides_by (Some k) signed quotient d a b w low small = narrow_by_power quotient d a k (low k refl)
+narrow_divides_by (Some k) signed quotient d a b w low small = narrow_by_power signed quotient d a k (low k refl)
 narrow_divides_by None signed quotient d a b w low small =
     narrow_both (divisor signed a b w) _ (narrow_divisor signed a b w small) (narrow_both (divides_by_ecx signed a) _ (narrow_by_ecx signed a) (tt, tt))
 

@@ -1,5 +1,5 @@
 -- Why `exponent` meets its contract, and its loop over `k` keeps the invariant.
-use Rattle.std.proofs.Common.{◌≡◌, ◌≢◌, ℕ, suc, ◌+◌, ◌-◌, ◌*◌, ◌^◌, sym, ap, ◌∙◌, arith}
+use Rattle.std.proofs.Common.{◌≡◌, ◌≢◌, suc, ◌+◌, ◌-◌, ◌*◌, ◌^◌, sym, ap, ◌∙◌, arith}
 use native.Mathlib.Nat.{pow-suc}
 use Rattle.std.proofs.lemmas.Bool.{ne_eqb}
 use Rattle.native_lowering_definition.specs.Powers.{exponent_from}
