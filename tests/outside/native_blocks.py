@@ -1,11 +1,15 @@
 #!/usr/bin/env python3
-"""The table of native code against the processor: native_blocks.py [BLOCKS [SEED]]
+"""The table of native code against the processor: native_blocks.py [BLOCKS [SEED]], or native_blocks.py --rows
 
 Draws blocks of the instructions of `x86_syntax` with edge words in all registers, writes each as GNU assembly, lets gcc make a program of them, runs it,
 and compares ends, registers, globals and output with the interpreter below. That is written from the words of the table, and knows nothing of the
 Rattle code. A block asks nothing of the processor that the table leaves open (there the interpreter is Stuck): such an instruction is drawn anew.
-First come all operators on all pairs of edge words, and on all pairs of registers."""
+First come all operators on all pairs of edge words, and on all pairs of registers.
+
+With --rows it writes crates/worked_rows/data/native.txt: what the processor makes of edge words by each operator and condition, which the rows ask of the
+interpreter of the model."""
 import collections
+import os
 import random
 import subprocess
 import sys
@@ -220,4 +224,35 @@ def main(blocks=10000, seed=1):
     return bool(wrong)
 
 
-sys.exit(main(*sys.argv[1:]))
+def asked(op, x, y):
+    """The instructions that ask an operator of two words, and the register of the result; none where that is left open."""
+    sets, fits = [("Set", "r8d", x), ("Set", "r9d", y), ("Set", "ecx", y)], (x, y) != (2**31, M - 1)
+    if op.removesuffix("w") in TWO: return sets + [("DoWith", op[:-1], "r8d", y) if op.endswith("w") else ("Do", op, "r8d", "r9d")], "r8d"
+    if op[:3] in SHIFTS: return y < 32 and (sets + [("ShiftBy", op[:3], "r8d") if op.endswith("b") else ("Shift", op, "r8d", y)], "r8d")
+    if op in ("neg", "not"): return y == 0 and (sets + [("Turn", op, "r8d")], "r8d")
+    if op == "cltd": return y == 0 and (sets + [("Copy", "eax", "r8d"), ("Extend",)], "edx")
+    if op in ("idiv", "irem"): return y and fits and (sets + [("Copy", "eax", "r8d"), ("Extend",), ("Divide", "r9d")], "eax" if op == "idiv" else "edx")
+    if op in ("div", "rem"): return y and (sets + [("Copy", "eax", "r8d"), ("Set", "edx", 0), ("DivideU", "r9d")], "eax" if op == "div" else "edx")
+    return sets + [("CompareWith", "r8d", y) if op.endswith("w") else ("Compare", "r8d", "r9d"), ("Flag", op.removesuffix("w"), "r8d")], "r8d"
+
+
+def rows():
+    """Asks the processor, and writes the rows."""
+    functions, mains, registers, lines = [[("Return",)]], [], [], {}
+    shifts = SHIFTS + [op + "b" for op in SHIFTS]
+    for op in TWO + [op + "w" for op in TWO] + shifts + ["neg", "not", "cltd", "idiv", "irem", "div", "rem"] + CONDITIONS + [cc + "w" for cc in CONDITIONS]:
+        for x, y in ((x, y) for x in EDGES for y in EDGES):
+            body = asked(op, x, y)
+            if not body: continue
+            mains.append(block(random.Random(0), functions, body[0], 0)[0])
+            registers.append(REGISTERS.index(body[1]))
+            lines.setdefault((op, x), []).append(y)
+    told = (line[k] for line, k in zip(on_processor(functions, mains), registers))
+    path = os.path.join(os.path.dirname(os.path.abspath(__file__)), "..", "..", "crates", "worked_rows", "data", "native.txt")
+    with open(path, "w", encoding="ascii") as out:
+        out.write("# Made by tests/outside/native_blocks.py --rows: what the processor makes of edge words\n")
+        for (op, x), ys in lines.items(): out.write(f"{op} {x} {','.join(map(str, ys))} => {' '.join(next(told) for _ in ys)}\n")
+    return 0
+
+
+sys.exit(rows() if sys.argv[1:] == ["--rows"] else main(*sys.argv[1:]))
