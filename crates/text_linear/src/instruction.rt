@@ -86,6 +86,17 @@ fn push_behind(out: &mut Vec<u8>, instruction: &Instruction) -> Result<(), NoMem
     }
 }
 
+/// Writes the line of an instruction at the end of `out`; where memory runs out, a beginning of it is written.
+pub fn push_instruction(out: &mut Vec<u8>, instruction: &Instruction) -> Result<(), NoMemory>
+    ensures { Appends result (shown_instruction instruction.now) out.old.items out.new.items }
+{
+    push_bytes(out, b" ")?;
+    push_left(out, instruction)?;
+    push_right(out, instruction)?;
+    push_behind(out, instruction)?;
+    end_line(out)
+}
+
 /// The line of an instruction.
 pub(crate) struct Line;
 
@@ -95,10 +106,6 @@ impl WriteOne for Line {
     ghost text = { shown_instruction };
 
     fn push(out: &mut Vec<u8>, item: &Instruction) -> Result<(), NoMemory> {
-        push_bytes(out, b" ")?;
-        push_left(out, item)?;
-        push_right(out, item)?;
-        push_behind(out, item)?;
-        end_line(out)
+        push_instruction(out, item)
     }
 }

@@ -7,5 +7,6 @@ mod laws;
 mod program;
 
 pub use function::push_named;
+pub use instruction::push_instruction;
 pub use laws::one_program_shown;
 pub use program::push_linear;
