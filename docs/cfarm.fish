@@ -29,7 +29,7 @@ complete -c cfarm -n '__fish_seen_subcommand_from build verify' -l bundle -r -d 
 complete -c cfarm -n '__fish_seen_subcommand_from build' -l offers -x -a '(__fish_complete_directories)' -d 'folder of offers from outside'
 complete -c cfarm -n '__fish_seen_subcommand_from exec' -l limit -x -a none -d 'instructions at most, or none'
 complete -c cfarm -n '__fish_seen_subcommand_from exec' -l expect -x -d 'the result that it must have'
-complete -c cfarm -n '__fish_seen_subcommand_from exec' -l explain -d 'where it was stopped'
+complete -c cfarm -n '__fish_seen_subcommand_from exec' -l explain -d 'why it went wrong'
 complete -c cfarm -n '__fish_seen_subcommand_from sim' -l svg -d 'draw it'
 complete -c cfarm -n '__fish_seen_subcommand_from verify' -l program -r -d 'file of the linked program'
 complete -c cfarm -n '__fish_seen_subcommand_from verify' -l native -r -d 'file of native code'

@@ -26,7 +26,7 @@ _cfarm() {
         '--optimise[what optimisers choose by]:way:(drawn speed)' '--bundle[file of the bundle]:file:_files' \
         '--offers[folder of offers from outside]:folder:_files -/' '--help' '*:C text:_files' ;;
     fsck) _arguments $farm '--help' '*:C text:_files' ;;
-    exec) _arguments '--limit[instructions at most, or none]:instructions' '--expect[the result that it must have]:result' '--explain[where it was stopped]' '--help' '*:program:_files' ;;
+    exec) _arguments '--limit[instructions at most, or none]:instructions' '--expect[the result that it must have]:result' '--explain[why it went wrong]' '--help' '*:program:_files' ;;
     sim) _arguments '--svg[draw it]' '--help' '*:schedule:_files' ;;
     verify) _arguments '--program[file of the linked program]:file:_files' '--bundle[file of the bundle]:file:_files' \
         '--native[file of native code]:file:_files' '--help' '*:C text:_files' ;;

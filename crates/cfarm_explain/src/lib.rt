@@ -6,7 +6,6 @@ mod bounds;
 mod causes;
 mod explaining;
 mod lines;
-mod numbers;
 
 pub use bounds::{stopped_at_depth, stopped_at_limit};
 pub use explaining::explain;

@@ -153,7 +153,7 @@ pub(crate) fn perform<
         }
         Task::Build(options) => build(host, is_seen, options, path, bytes, files, meter, out, err),
         Task::Exec(limit, expected, explaining) => run_bytes(
-            alloc, is_seen, explaining, bytes, limit, expected, out, err,
+            alloc, is_seen, explaining, path, bytes, limit, expected, out, err,
         ),
         Task::Settle => lay_out(host.threads, alloc, bytes, out, err),
         Task::Simulate(showing) => play(alloc, showing, bytes, out, err),

@@ -4,3 +4,4 @@ pub mod Causes
 pub mod Bounded
 pub mod Wholes
 pub mod Placed
+pub mod Linked

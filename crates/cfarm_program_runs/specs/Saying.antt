@@ -1,5 +1,11 @@
 -- What a command comes to, and how that is told.
 use Rattle.std.specs.Prelude.{◌≡◌, ◌⊎◌, ℕ, Bool, true, false, List, [], ◌∷◌, ◌++◌, Option, Some, codes}
+use Rattle.lang_base.specs.declared.shown.Shown.{Shown as Closed}
+use Rattle.lang_base.specs.declared.shown.Shown.TheVariants.{Wrong}
+use Rattle.lang_base.specs.declared.program.Program.{Program}
+use Rattle.linear_language.specs.Function.{FunctionData}
+use Rattle.cfarm_run.specs.Closings.{closing_line}
+use Rattle.cfarm_run.specs.ExecTold.{IsSpelled}
 use Rattle.cfarm_run.specs.declared.command_error.CommandError.{CommandError}
 use Rattle.cfarm_command_line_tasks.specs.declared.task.Explaining.{Explaining}
 use Rattle.cfarm_command_line_tasks.specs.declared.task.Format.{Format}
@@ -7,6 +13,7 @@ use Rattle.cfarm_command_line_tasks.specs.declared.task.Format.TheVariants.{Gcc,
 use Rattle.cfarm_command_line_tasks.specs.declared.task.Task.TheVariants.{Check, Interpret}
 use Rattle.cfarm_explain.specs.Bounds.{depth_text, limit_text}
 use Rattle.cfarm_explain.specs.Explained as run
+use Rattle.cfarm_explain_linked.specs.Explained as linked
 use Rattle.cfarm_output.specs.Errors.{ErrorsHeld, Tells}
 use Rattle.cfarm_program_status.specs.Reading.{Coming}
 use Rattle.cfarm_program_status.specs.Telling.{Answer, IsExplained}
@@ -61,7 +68,30 @@ IsWrongTold is_explained path bytes depth status before after = status ≡ 5 →
 abbrev pub CausesOf : Bool → Explaining → (path bytes : List ℕ) → ℕ → ℕ → ErrorsHeld → ErrorsHeld → Type 0
 CausesOf is_seen explaining path bytes depth = IsWrongTold (is_explained is_seen (Interpret depth explaining)) path bytes depth
 
+-- the bytes spell a program, and this is told of its run of so many instructions
+abbrev pub IsLinkedFault : (path bytes : List ℕ) → ℕ → List ℕ → Type 0
+IsLinkedFault path bytes limit text = (p : Program FunctionData) × IsSpelled bytes p × (linked.told_of path p limit ≡ Some text)
+
+-- why the run of this linked program went wrong, where and in which calls; or nothing, where memory was refused
+abbrev pub IsLinkedCause : (path bytes : List ℕ) → ℕ → List ℕ → Type 0
+IsLinkedCause path bytes limit behind = (behind ≡ []) ⊎ IsLinkedFault path bytes limit behind
+
+-- behind the line of a run of a linked program that went wrong stands its cause, where that is explained
+abbrev pub IsBehindLinked : Bool → (path bytes : List ℕ) → ℕ → List ℕ → Type 0
+IsBehindLinked true path bytes limit behind = IsLinkedCause path bytes limit behind
+IsBehindLinked false path bytes limit behind = behind ≡ []
+
+-- with the status of a run that went wrong, or did not end as was expected, it is told how it closed; where it went wrong, with its cause
+abbrev pub IsLinkedTold : Bool → (path bytes : List ℕ) → ℕ → ℕ → ErrorsHeld → ErrorsHeld → Type 0
+IsLinkedTold is_explained path bytes limit status before after = status ≡ 5 →
+    (closed : Closed) × (front : List ℕ) × (behind : List ℕ) × (closed ≡ Wrong → IsBehindLinked is_explained path bytes limit behind)
+    × Tells before after (front ++ (closing_line closed ++ 10 ∷ behind))
+
 -- the same of `exec`
+abbrev pub LinkedCausesOf : Bool → Explaining → (path bytes : List ℕ) → ℕ → ℕ → ErrorsHeld → ErrorsHeld → Type 0
+LinkedCausesOf is_seen explaining path bytes limit = IsLinkedTold (is_asked is_seen explaining) path bytes limit
+
+-- what `exec` comes to is told, and explained where that is asked for
 abbrev pub Executes : {W E : Type 0} → (W → Option (List ℕ)) → (E → ErrorsHeld) → Bool → Explaining → Coming → Shown W E → Type 0
 Executes contents errors is_seen explaining Comes = Explains contents errors (is_asked is_seen explaining) Comes
 

@@ -5,20 +5,21 @@ ghost use Rattle.cfarm_program_status.specs.Reading.{Says};
 ghost use Rattle.cfarm_program_status.specs.Trace.{shown};
 ghost use Rattle.cfarm_program_status.specs.Telling.{IsExplained};
 ghost use Rattle.cfarm_program_runs.specs.Outcomes.{Executed, Settled, placed_fault, text_fault};
-ghost use Rattle.cfarm_program_runs.specs.Saying.{CausesOf, Checks, Executes, Interprets, IsBehindStopped, IsBehindWrong, IsFaultTold, IsObjectTold, IsPlacedTold};
-ghost use Rattle.cfarm_program_runs.specs.Saying.{StoppedAtDepth, StoppedAtLimit};
+ghost use Rattle.cfarm_program_runs.specs.Saying.{CausesOf, Checks, Executes, Interprets, IsBehindLinked, IsBehindStopped, IsBehindWrong};
+ghost use Rattle.cfarm_program_runs.specs.Saying.{IsFaultTold, IsObjectTold, IsPlacedTold, LinkedCausesOf, StoppedAtDepth, StoppedAtLimit};
 ghost use Rattle.cfarm_program_runs.specs.Explained.{is_asked};
 ghost use Rattle.cfarm_explain.specs.Bounds.{depth_text, limit_text};
 
 use crate::objects::{Refusal, tell_refusal};
 use cfarm_command_line_tasks::{Explaining, Format};
 use cfarm_explain::{explain, stopped_at_depth, stopped_at_limit};
+use cfarm_explain_linked::explain_linked;
 use cfarm_hints::{declared_of, hint_of, hint_where, is_amid, of_text};
 use cfarm_output::{ErrorLines, Paced};
 use cfarm_program_status::{tell, tell_among};
 use cfarm_run::{
-    Closing, CommandError, PlacedError, TextError, check_text, exec, interpret, status_of,
-    status_where,
+    Closing, CommandError, PlacedError, TextError, check_text, exec, interpret, read_whole,
+    status_of, status_where,
 };
 use cfarm_settle::settle;
 use lang_base::{NoMemory, Shown};
@@ -226,12 +227,40 @@ fn behind_run(
     }
 }
 
-/// What stands behind the line of a run of a linked program: where it was stopped the bound.
-fn behind_exec(alloc: Global, is_explained: bool, limit: u64, shown: Shown) -> String
+/// Why the run of a linked program went wrong, where and in which calls; nothing where there is no memory for that.
+fn linked_cause(alloc: Global, path: &str, bytes: &[u8], limit: u64) -> String
+    ensures { IsBehindLinked true path.now bytes.now limit (string_bytes result) }
+{
+    let Ok(program) = read_whole(alloc, bytes) else {
+        return String::new(alloc);
+    };
+    let Ok(Some(lines)) = explain_linked(alloc, path.as_bytes(), &program, limit) else {
+        return String::new(alloc);
+    };
+    let Ok(told) = str::from_utf8(lines.as_slice()) else {
+        return String::new(alloc);
+    };
+    match told.to_string(alloc) {
+        Ok(cause) => cause,
+        Err(_) => String::new(alloc),
+    }
+}
+
+/// What stands behind the line of a run of a linked program: where it went wrong its cause, where it was stopped the bound.
+fn behind_exec(
+    alloc: Global,
+    is_explained: bool,
+    path: &str,
+    bytes: &[u8],
+    limit: u64,
+    shown: Shown,
+) -> String
     ensures unseen { is_explained ≡ false → string_bytes result ≡ [] }
+    ensures wrong { shown ≡ Shown.Wrong → IsBehindLinked is_explained path.now bytes.now limit (string_bytes result) }
     ensures stopped { shown ≡ Shown.Running → IsBehindStopped is_explained (limit_text limit) (string_bytes result) }
 {
     match shown {
+        Shown::Wrong if is_explained => linked_cause(alloc, path, bytes, limit),
         Shown::Running if is_explained => limit_told(alloc, limit),
         _ => String::new(alloc),
     }
@@ -271,12 +300,14 @@ pub fn run_text<W: Write, E: ErrorLines>(
     }
 }
 
-/// `exec`: writes what a linked program prints, and tells how it closed; where it was stopped and that is explained, at which bound.
+/// `exec`: writes what a linked program prints, and tells how it closed; where that is explained, why it went wrong or at which bound it was
+/// stopped.
 #[tactic(auto, using(crate::proofs::Tables::exec_in_table, crate::proofs::Tables::where_in_table))]
 pub fn run_bytes<W: Write, E: ErrorLines>(
     alloc: Global,
     is_seen: bool,
     explaining: Explaining,
+    path: &str,
     bytes: &[u8],
     limit: u64,
     expected: Option<i32>,
@@ -284,6 +315,7 @@ pub fn run_bytes<W: Write, E: ErrorLines>(
     err: &mut E,
 ) -> u8
     ensures does { Executes W.contents E.contents is_seen explaining (Executed bytes.now limit expected) (shown result out err) }
+    ensures cause { LinkedCausesOf is_seen explaining path.now bytes.now limit result (E.contents err.old) (E.contents err.new) }
     ensures stopped { StoppedAtLimit is_seen explaining limit result (E.contents err.old) (E.contents err.new) }
     ensures table { result ≤ 7 }
 {
@@ -291,7 +323,7 @@ pub fn run_bytes<W: Write, E: ErrorLines>(
     match exec(alloc, bytes, limit, out) {
         Ok(shown) => {
             let front = is_amid(is_seen, out);
-            let behind = behind_exec(alloc, is_explained, limit, shown);
+            let behind = behind_exec(alloc, is_explained, path, bytes, limit, shown);
             tell_among(
                 err,
                 front,

@@ -26,4 +26,5 @@ pub use interpreting::interpret;
 pub use linear::run;
 pub use placed_error::PlacedError;
 pub use placed_line::PlacedLine;
+pub use reading::read_whole;
 pub use sentences::sentence_of;

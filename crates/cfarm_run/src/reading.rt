@@ -7,7 +7,7 @@ use linear_language::{Function, Linear};
 use std::alloc::Global;
 
 /// The program that all of the bytes spell.
-pub(crate) fn read_whole(alloc: Global, bytes: &[u8]) -> Result<Program<Function>, FormError>
+pub fn read_whole(alloc: Global, bytes: &[u8]) -> Result<Program<Function>, FormError>
     ensures ok { IfOk result (λ program. IsSpelled bytes.now program) }
     ensures refused { IfErr result (λ fault. IsFormTold bytes.now fault) }
     ensures behind { IfErr result (λ fault. IsBehindTold bytes.now fault) }

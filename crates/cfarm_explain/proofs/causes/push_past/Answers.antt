@@ -4,7 +4,8 @@ use Rattle.std.specs.Fmt.{decimal}
 use Rattle.std.proofs.Common.{◌++◌, subst}
 use Rattle.lang_base.specs.Texts.{Appends}
 use Rattle.text_keys.proofs.Appending.{appends_behind, function_written}
-use Rattle.cfarm_explain.specs.Causes.{index_text, name_at}
+use Rattle.cfarm_explain.specs.Causes.{name_at}
+use Rattle.cfarm_explain_words.specs.Operators.{index_text}
 use Rattle.cfarm_explain.proofs.causes.push_past.Goals as goal
 
 pub returns : goal.returns

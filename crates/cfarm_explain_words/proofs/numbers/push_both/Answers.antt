@@ -3,7 +3,7 @@ use Rattle.std.specs.Prelude.{codes, ◌-◌, ◌^◌}
 use Rattle.std.specs.Fmt.{decimal}
 use Rattle.std.proofs.Common.{◌++◌, ap, ◌∙◌}
 use Rattle.text_keys.proofs.Appending.{appends_behind, function_written}
-use Rattle.cfarm_explain.proofs.numbers.push_both.Goals as goal
+use Rattle.cfarm_explain_words.proofs.numbers.push_both.Goals as goal
 
 pub returns : goal.returns
 returns c =

@@ -2,8 +2,8 @@
 use Rattle.std.specs.Prelude.{codes}
 use Rattle.std.proofs.Common.{◌++◌, ap, ◌∙◌}
 use Rattle.text_keys.proofs.Appending.{appends_behind}
-use Rattle.cfarm_explain.specs.Causes.{first_text, sign_of}
-use Rattle.cfarm_explain.proofs.causes.push_division.Goals as goal
+use Rattle.cfarm_explain_words.specs.Operators.{first_text, sign_of}
+use Rattle.cfarm_explain_words.proofs.operators.push_division.Goals as goal
 
 pub returns : goal.returns
 returns c =

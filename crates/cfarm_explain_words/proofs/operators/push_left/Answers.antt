@@ -1,8 +1,8 @@
 -- Why `push_left` meets its contract.
 use Rattle.std.specs.Prelude.{codes}
 use Rattle.text_keys.proofs.Appending.{function_written}
-use Rattle.cfarm_explain.specs.Causes.{int_text}
-use Rattle.cfarm_explain.proofs.causes.push_left.Goals as goal
+use Rattle.cfarm_explain_words.specs.Operators.{int_text}
+use Rattle.cfarm_explain_words.proofs.operators.push_left.Goals as goal
 
 pub returns : goal.returns
 returns c =

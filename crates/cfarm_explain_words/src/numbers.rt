@@ -2,13 +2,13 @@
 
 ghost use Rattle.std.specs.Prelude.{◌≡◌, ◌-◌, ◌^◌, decimal};
 ghost use Rattle.lang_base.specs.Texts.{Appends};
-ghost use Rattle.cfarm_explain.specs.Causes.{both_text, is_negative, int_text, index_text};
+ghost use Rattle.cfarm_explain_words.specs.Operators.{both_text, is_negative, int_text, index_text};
 
 use lang_base::NoMemory;
 use text_keys::{push_bytes, push_number};
 
 /// Whether a word is a negative `int`.
-pub fn is_negative(word: u32) -> bool
+pub(crate) fn is_negative(word: u32) -> bool
     ensures { result ≡ is_negative word }
 {
     0x8000_0000 <= word
@@ -22,7 +22,7 @@ fn push_below(out: &mut Vec<u8>, word: u32) -> Result<(), NoMemory>
 }
 
 /// Writes an `int` with its sign.
-pub fn push_int(out: &mut Vec<u8>, word: u32) -> Result<(), NoMemory>
+pub(crate) fn push_int(out: &mut Vec<u8>, word: u32) -> Result<(), NoMemory>
     ensures { Appends result (int_text word) out.old.items out.new.items }
 {
     if is_negative(word) {
